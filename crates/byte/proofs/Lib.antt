@@ -1,0 +1,6 @@
+pub mod Tests
+pub mod Laws
+pub mod Same
+pub mod Digit
+pub mod Writing
+pub mod Fill
