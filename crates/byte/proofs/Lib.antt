@@ -1,6 +1,7 @@
 pub mod Tests
 pub mod Laws
 pub mod Same
+pub mod Table
 pub mod Digit
 pub mod Writing
 pub mod Fill

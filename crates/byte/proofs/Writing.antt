@@ -19,6 +19,22 @@ pub put-nil : (d : List ℕ) (at : ℕ) → put d at [] ≡ d
 unfolding put
 put-nil d at = rw (append-nil (take at d), add-zero at) (take-append-drop at d)
 
+pub written-nil : (d : List ℕ) (at : ℕ) → written d at [] ≡ d
+unfolding written
+written-nil d at = by (fits d at [])
+  where
+    by : (t : Bool) → pick t (put d at []) d ≡ d
+    by true = put-nil d at
+    by false = refl
+
+pub after-nil : (d : List ℕ) (at : ℕ) → after d at [] ≡ at
+unfolding after
+after-nil d at = by (fits d at [])
+  where
+    by : (t : Bool) → pick t (at + 0) at ≡ at
+    by true = add-zero at
+    by false = refl
+
 -- one byte
 pub put-one : (d : List ℕ) (at b : ℕ) → at < length d → set d at b ≡ put d at (b ∷ [])
 unfolding put

@@ -1,4 +1,4 @@
-use mathlib.Core.Path.{_≡_, refl, sym, ap, _∙_}
+use mathlib.Core.Path.{sym, _∙_}
 use Prim.Native.Nat.{ℕ, _+_, _-_, _≤_, _<_}
 use native.Mathlib.Omega.{arith}
 use borrow.Author.Needs.{needs}
@@ -8,9 +8,6 @@ use Rattle.byte.proofs.Writing.{written-short, after-short}
 use Rattle.byte.proofs.Fill.{Filling, fill-start, fill-length, fill-at, fill-end}
 use Rattle.byte.proofs.clear.Statement.{statement}
 use Rattle.byte.proofs.clear.Tie as tie
-use Rattle.byte.proofs.clear.Reads as reads
-use Rattle.byte.proofs.clear.Lts as lts
-use Rattle.byte.proofs.has_room.Reads as has-room-reads
 
 abbrev Inv-loop : tie.InvT-loop
 Inv-loop dst₀ at n k₀ dst k = (at + n ≤ length dst₀) × Filling dst₀ at (replicate n 0) (drop k (replicate n 0)) dst k
@@ -18,7 +15,6 @@ Inv-loop dst₀ at n k₀ dst k = (at + n ≤ length dst₀) × Filling dst₀ a
 abbrev μ-loop : tie.MeasureT-loop
 μ-loop dst₀ at n k₀ dst k = n - k
 
--- src/lib.rt:112:9
 has-room-requires : tie.Need-has-room-requires Inv-loop μ-loop
 has-room-requires c κs = search needs
 
@@ -30,46 +26,36 @@ no-room c =
 room : (c : tie.At-loop Inv-loop μ-loop) → c .before .before .before .before .args .at + length (replicate {A = ℕ} (c .before .before .before .before .args .n) 0) ≤ length (c .before .before .before .before .args .dst .now)
 room c = omega (arith, length-replicate {A = ℕ} (c .before .before .before .before .args .n) 0, c .loop .inv .0)
 
--- src/lib.rt:113:9
 returns : tie.Need-returns Inv-loop μ-loop
 returns c = let a = c .before .before .before .args in (sym (after-short _ (a .at) _ (no-room c)), sym (written-short _ (a .at) _ (no-room c)))
 
--- src/lib.rt:116:5
 loop-holds : tie.Need-loop-holds Inv-loop μ-loop
 loop-holds c = (leb-true _ _ (sym (c .before .has-room .ensures) ∙ not-false _ (c .if1 .left)), fill-start _ _ _)
 
--- src/lib.rt:117:13
 add-dst : tie.Need-add-dst Inv-loop μ-loop
 add-dst c = omega arith
 
--- src/lib.rt:117:9
 slice-write-dst : tie.Need-slice-write-dst Inv-loop μ-loop
 slice-write-dst c = omega (arith, fill-length _ _ _ (room (c .before)) _ _ _ (c .before .loop .inv .1))
 
--- src/lib.rt:118:9
 add-k : tie.Need-add-k Inv-loop μ-loop
 add-k c = omega arith
 
--- src/lib.rt:116:5
 loop-less : tie.Need-loop-less Inv-loop μ-loop
 loop-less c = omega arith
 
--- src/lib.rt:116:5
 loop-again : tie.Need-loop-again Inv-loop μ-loop
 loop-again c =
     let n = c .before .before .before .before .before .args .n in
     let k = c .before .loop .k in
     (c .before .loop .inv .0, fill-at _ _ _ (room (c .before)) _ _ _ (omega (arith, length-replicate {A = ℕ} n 0, c .loop-test .taken)) (getD-replicate {A = ℕ} n k 0 0 (c .loop-test .taken)) (c .before .loop .inv .1))
 
--- src/lib.rt:120:5
 add-result : tie.Need-add-result Inv-loop μ-loop
 add-result c = omega (arith, length-replicate {A = ℕ} (c .before .before .before .before .before .args .n) 0, c .before .loop .inv .1 .low)
 
--- src/lib.rt:108:1
 same-length : tie.Need-same-length Inv-loop μ-loop
 same-length c = fill-length _ _ _ (room (c .before)) _ _ _ (c .before .loop .inv .1)
 
--- src/lib.rt:108:1
 returns-2 : tie.Need-returns-2 Inv-loop μ-loop
 returns-2 c =
     let f = fill-end _ _ _ (room (c .before)) _ _ (omega (arith, length-replicate {A = ℕ} (c .before .before .before .before .before .args .n) 0, c .loop-test .left)) (c .before .loop .inv .1) in

@@ -1,5 +1,5 @@
-use mathlib.Core.Path.{_≡_, refl, sym, ap, _∙_}
-use Prim.Native.Nat.{ℕ, _+_, _-_, _<_, _≤_}
+use mathlib.Core.Path.{refl, sym, _∙_}
+use Prim.Native.Nat.{_+_, _-_, _<_, _≤_}
 use native.Mathlib.Omega.{arith}
 use borrow.Author.Needs.{needs}
 use borrow.Author.Tests.{leb-true, leb-false, not-true, not-false}
@@ -8,9 +8,6 @@ use Rattle.byte.proofs.Writing.{written-short, after-short}
 use Rattle.byte.proofs.Fill.{Filling, fill-start, fill-length, fill-at, fill-end}
 use Rattle.byte.proofs.copy.Statement.{statement}
 use Rattle.byte.proofs.copy.Tie as tie
-use Rattle.byte.proofs.copy.Reads as reads
-use Rattle.byte.proofs.copy.Lts as lts
-use Rattle.byte.proofs.has_room.Reads as has-room-reads
 
 abbrev Inv-loop : tie.InvT-loop
 Inv-loop src dst₀ at k₀ dst k = (at + length src ≤ length dst₀) × Filling dst₀ at src (drop k src) dst k
@@ -18,7 +15,6 @@ Inv-loop src dst₀ at k₀ dst k = (at + length src ≤ length dst₀) × Filli
 abbrev μ-loop : tie.MeasureT-loop
 μ-loop src dst₀ at k₀ dst k = length src - k
 
--- src/lib.rt:96:9
 has-room-requires : tie.Need-has-room-requires Inv-loop μ-loop
 has-room-requires c κs = search needs
 
@@ -26,47 +22,36 @@ has-room-requires c κs = search needs
 no-room : (c : tie.Then1 Inv-loop μ-loop) → length (c .before .before .before .before .args .dst .now) < c .before .before .before .before .args .at + length (c .before .before .before .before .args .src .now)
 no-room c = leb-false _ _ (sym (c .before .has-room .ensures) ∙ not-true _ (c .if1 .taken))
 
--- src/lib.rt:97:9
 returns : tie.Need-returns Inv-loop μ-loop
 returns c = let a = c .before .before .before .before .args in (sym (after-short _ (a .at) _ (no-room c)), sym (written-short _ (a .at) _ (no-room c)))
 
--- src/lib.rt:100:5
 loop-holds : tie.Need-loop-holds Inv-loop μ-loop
 loop-holds c = (leb-true _ _ (sym (c .before .has-room .ensures) ∙ not-false _ (c .if1 .left)), fill-start _ _ _)
 
--- src/lib.rt:101:23
 shared-slice-read-dst : tie.Need-shared-slice-read-dst Inv-loop μ-loop
 shared-slice-read-dst c = omega arith
 
--- src/lib.rt:101:13
 add-dst : tie.Need-add-dst Inv-loop μ-loop
 add-dst c = omega arith
 
--- src/lib.rt:101:9
 slice-write-dst : tie.Need-slice-write-dst Inv-loop μ-loop
 slice-write-dst c = omega (arith, fill-length _ _ _ (c .before .before .loop .inv .0) _ _ _ (c .before .before .loop .inv .1))
 
--- src/lib.rt:102:9
 add-k : tie.Need-add-k Inv-loop μ-loop
 add-k c = omega arith
 
--- src/lib.rt:100:5
 loop-less : tie.Need-loop-less Inv-loop μ-loop
 loop-less c = omega arith
 
--- src/lib.rt:100:5
 loop-again : tie.Need-loop-again Inv-loop μ-loop
 loop-again c = (c .before .before .loop .inv .0, fill-at _ _ _ (c .before .before .loop .inv .0) _ _ _ (c .before .loop-test .taken) refl (c .before .before .loop .inv .1))
 
--- src/lib.rt:104:5
 add-result : tie.Need-add-result Inv-loop μ-loop
 add-result c = omega (arith, c .before .loop .inv .1 .low)
 
--- src/lib.rt:92:1
 same-length : tie.Need-same-length Inv-loop μ-loop
 same-length c = fill-length _ _ _ (c .before .loop .inv .0) _ _ _ (c .before .loop .inv .1)
 
--- src/lib.rt:92:1
 returns-2 : tie.Need-returns-2 Inv-loop μ-loop
 returns-2 c = let f = fill-end _ _ _ (c .before .loop .inv .0) _ _ (c .loop-test .left) (c .before .loop .inv .1) in (f .answer, f .leaves)
 

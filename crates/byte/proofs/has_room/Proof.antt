@@ -7,10 +7,7 @@ use native.Mathlib.Omega.{arith}
 use Rattle.byte.proofs.Tests.{tests}
 use Rattle.byte.proofs.has_room.Statement.{statement}
 use Rattle.byte.proofs.has_room.Tie as tie
-use Rattle.byte.proofs.has_room.Reads as reads
-use Rattle.byte.proofs.has_room.Lts as lts
 
--- src/lib.rt:74:9
 returns : tie.Need-returns
 returns c =
     let h : c .before .args .len < c .before .args .at + c .before .args .n = omega arith in
@@ -20,7 +17,6 @@ moved : (n len at : ℕ) → at ≤ len → (t : Bool) → leb n (len - at) ≡ 
 moved n len at h true e = sym (le-leb (at + n) len (omega (arith, leb-true n (len - at) e)))
 moved n len at h false e = sym (lt-leb (at + n) len (omega (arith, leb-false n (len - at) e)))
 
--- src/lib.rt:70:1
 returns-2 : tie.Need-returns-2
 returns-2 c = moved (c .before .args .n) (c .before .args .len) (c .before .args .at) (c .if1 .left) _ refl
 

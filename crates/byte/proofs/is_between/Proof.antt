@@ -3,15 +3,11 @@ use Rattle.byte.specs.Byte.{between}
 use Rattle.byte.proofs.Tests.{tests}
 use Rattle.byte.proofs.is_between.Statement.{statement}
 use Rattle.byte.proofs.is_between.Tie as tie
-use Rattle.byte.proofs.is_between.Reads as reads
-use Rattle.byte.proofs.is_between.Lts as lts
 
--- src/lib.rt:19:1
 returns : tie.Need-returns
 unfolding between
 returns c = search tests
 
--- src/lib.rt:19:1
 returns-2 : tie.Need-returns-2
 unfolding between
 returns-2 c = search (tests, arith)

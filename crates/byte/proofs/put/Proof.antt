@@ -1,34 +1,27 @@
 use Prim.Native.Nat.{_+_, _≤_}
 use lib.ListN.{length}
-use mathlib.Core.Path.{_≡_, sym, _∙_}
+use mathlib.Core.Path.{sym, _∙_}
 use mathlib.Core.List.{[], _∷_}
 use native.Mathlib.Omega.{arith}
 use Rattle.byte.proofs.Writing.{put-one, written-room, after-room, written-short, after-short}
 use borrow.Author.Needs.{needs}
 use Rattle.byte.proofs.put.Statement.{statement}
 use Rattle.byte.proofs.put.Tie as tie
-use Rattle.byte.proofs.put.Reads as reads
-use Rattle.byte.proofs.put.Lts as lts
 
--- src/lib.rt:85:9
 returns : tie.Need-returns
 returns c =
     let a = c .before .args in
     (sym (after-short (a .dst .now) (a .at) (a .b ∷ []) (omega arith)), sym (written-short (a .dst .now) (a .at) (a .b ∷ []) (omega arith)))
 
--- src/lib.rt:87:5
 slice-write-dst : tie.Need-slice-write-dst
 slice-write-dst c = search needs
 
--- src/lib.rt:88:5
 add-result : tie.Need-add-result
 add-result c = search needs
 
--- src/lib.rt:80:1
 same-length : tie.Need-same-length
 same-length c = search needs
 
--- src/lib.rt:80:1
 returns-2 : tie.Need-returns-2
 returns-2 c =
     let a = c .before .args in

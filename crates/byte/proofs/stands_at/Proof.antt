@@ -1,5 +1,4 @@
 use mathlib.Core.Path.{_≡_, sym, ap, _∙_}
-use mathlib.Core.List.{List}
 use Prim.Native.Nat.{ℕ, _+_, _-_, _≤_}
 use native.Mathlib.Omega.{arith}
 use borrow.Author.Tests.{leb-true, leb-false, not-true, not-false}
@@ -9,43 +8,31 @@ use Rattle.byte.proofs.Same.{stands-short, stands-within}
 use borrow.Author.Needs.{needs}
 use Rattle.byte.proofs.stands_at.Statement.{statement}
 use Rattle.byte.proofs.stands_at.Tie as tie
-use Rattle.byte.proofs.stands_at.Reads as reads
-use Rattle.byte.proofs.stands_at.Lts as lts
-use Rattle.byte.proofs.equals.Reads as equals-reads
-use Rattle.byte.proofs.has_room.Reads as has-room-reads
 
--- src/lib.rt:62:9
 has-room-requires : tie.Need-has-room-requires
 has-room-requires c κs = search needs
 
--- src/lib.rt:63:9
 returns : tie.Need-returns
 returns c = let a = c .before .before .before .before .args in sym (stands-short (a .w .now) (a .at) (a .s .now) (leb-false _ _ (sym (c .before .has-room .ensures) ∙ not-true _ (c .if1 .taken))))
 
 room : (c : tie.Else1) → c .before .before .before .before .args .at + length (c .before .before .before .before .args .w .now) ≤ length (c .before .before .before .before .args .s .now)
 room c = leb-true _ _ (sym (c .before .has-room .ensures) ∙ not-false _ (c .if1 .left))
 
--- src/lib.rt:65:15
 add-end : tie.Need-add-end
 add-end c = omega (arith, room c)
 
--- src/lib.rt:66:12
 sub-equals : tie.Need-sub-equals
 sub-equals c = search needs
 
--- src/lib.rt:66:12
 part-equals-start : tie.Need-part-equals-start
 part-equals-start c = search needs
 
--- src/lib.rt:66:12
 part-equals-end : tie.Need-part-equals-end
 part-equals-end c = room c
 
--- src/lib.rt:66:5
 equals-requires : tie.Need-equals-requires
 equals-requires c κs = search needs
 
--- src/lib.rt:58:1
 returns-2 : tie.Need-returns-2
 returns-2 c =
     let a = c .before .before .before .before .before .before .args in

@@ -1,0 +1,3 @@
+pub mod Among
+pub mod Rows
+pub mod Examples
