@@ -8,6 +8,7 @@ use native.Mathlib.Omega.{arith}
 use lib.Dec.{eqb, leb}
 use lib.ListN.{length}
 use borrow.Author.Tests.{eqb-true}
+use Rattle.byte.specs.Ascii.{bytes}
 use Rattle.byte.specs.Same.{same, standsAt}
 use Rattle.byte.proofs.Table.{every, holds-at}
 use Rattle.names.specs.Names.{keyName, wordName, wordsOf}
@@ -27,23 +28,26 @@ pub word-own : (k w : ℕ) → k < 20 → w < length (wordsOf k) → wordNumber 
 unfolding finds-words wordNumber wordName wordsOf numberIn among same
 word-own k w h l = eqb-true _ _ (holds-at (length (wordsOf k)) (λ (v : ℕ). eqb (wordNumber k (wordName k (v + 1))) (v + 1)) (holds-at 20 finds-words refl k h) w l)
 
--- `Port` is no key, `ports` none, `` none; `postgres:/` is no prefix; `postgresql://` is one of 13 bytes
-pub no-port : keyNumber (80 ∷ 111 ∷ 114 ∷ 116 ∷ []) ≡ 0
+pub no-capital : keyNumber (bytes "Port") ≡ 0
 unfolding keyNumber numberIn among same
-no-port = refl
+no-capital = refl
 
-pub no-ports : keyNumber (112 ∷ 111 ∷ 114 ∷ 116 ∷ 115 ∷ []) ≡ 0
+pub no-longer : keyNumber (bytes "ports") ≡ 0
 unfolding keyNumber numberIn among same
-no-ports = refl
+no-longer = refl
 
 pub no-empty : keyNumber [] ≡ 0
 unfolding keyNumber numberIn among same
 no-empty = refl
 
-pub short-prefix : prefixLen (112 ∷ 111 ∷ 115 ∷ 116 ∷ 103 ∷ 114 ∷ 101 ∷ 115 ∷ 58 ∷ 47 ∷ []) ≡ 0
+pub no-prefix : prefixLen (bytes "postgres:/") ≡ 0
+unfolding prefixLen startLen standsAt same
+no-prefix = refl
+
+pub short-prefix : prefixLen (bytes "postgres://") ≡ 11
 unfolding prefixLen startLen standsAt same
 short-prefix = refl
 
-pub long-prefix : prefixLen (112 ∷ 111 ∷ 115 ∷ 116 ∷ 103 ∷ 114 ∷ 101 ∷ 115 ∷ 113 ∷ 108 ∷ 58 ∷ 47 ∷ 47 ∷ 104 ∷ []) ≡ 13
+pub long-prefix : prefixLen (bytes "postgresql://h") ≡ 13
 unfolding prefixLen startLen standsAt same
 long-prefix = refl
