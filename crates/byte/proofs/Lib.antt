@@ -1,5 +1,6 @@
 pub mod Tests
 pub mod Laws
+pub mod Parts
 pub mod Same
 pub mod Table
 pub mod Digit

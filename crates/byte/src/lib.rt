@@ -4,7 +4,7 @@ ghost use mathlib.Core.List.{[], _∷_};
 ghost use Prim.Native.Nat.{_+_};
 ghost use lib.Dec.{leb};
 ghost use lib.ListN.{length, getD, replicate};
-ghost use Rattle.byte.specs.Byte.{between};
+ghost use Rattle.byte.specs.Byte.{between, partOf};
 ghost use Rattle.byte.specs.Same.{same, standsAt};
 ghost use Rattle.byte.specs.Digit.{digitOf};
 ghost use Rattle.byte.specs.Put.{written, after};
@@ -14,6 +14,22 @@ pub fn at(s: &[u8], i: usize) -> u8
     ensures { λ r. ⌜ r ≡ getD (now (s .entry)) i 0 ⌝ }
 {
     if i < s.len() { s[i] } else { 0 }
+}
+
+// The bytes from `a` up to `e`, as far as they stand in `s`.
+pub fn part(s: &[u8], a: usize, e: usize) -> &[u8]
+    ensures { λ r. ⌜ now r ≡ partOf a e (now (s .entry)) ⌝ }
+{
+    if e <= a {
+        return &s[0..0];
+    }
+    if s.len() <= a {
+        return &s[0..0];
+    }
+    if s.len() < e {
+        return &s[a..];
+    }
+    &s[a..e]
 }
 
 pub fn is_between(lo: u8, hi: u8, c: u8) -> bool
