@@ -1,0 +1,54 @@
+-- What holds while digits are read, in any base and at any bound: t is the whole piece, v the number so far, rest what is still to come.
+-- Assumes nothing.
+use mathlib.Core.Path.{_≡_, refl, sym, ap, _∙_}
+use mathlib.Core.Bool.{Bool, true, false, _&&_}
+use mathlib.Core.List.{List, [], _∷_}
+use Prim.Native.Nat.{ℕ, _+_, _*_, _<_, _≤_}
+use native.Mathlib.Omega.{arith}
+use lib.Dec.{ltb, leb}
+use lib.ListN.{length}
+use borrow.Author.Tests.{lt-ltb, le-ltb, le-leb, lt-leb}
+use Rattle.byte.specs.Byte.{pick}
+use Rattle.byte.specs.Digit.{digitOf}
+use Rattle.number.specs.declared.Number.{Number}
+use Rattle.number.specs.Digits.{allDigits, valueFrom, valueIn}
+use Rattle.number.specs.Number.{digitsIn}
+use Rattle.number.proofs.Digits.{grows}
+
+pub record Reading (base max : ℕ) (t : List ℕ) (v : ℕ) (rest : List ℕ) : Type 0 where
+  pub some : 0 < length t
+  pub low : v ≤ max
+  pub digits : allDigits base t ≡ allDigits base rest
+  pub means : valueIn base t ≡ valueFrom base v rest
+
+module _ (base max : ℕ) where
+  pub nothing : digitsIn base max [] ≡ Number.Form
+  unfolding digitsIn
+  nothing = refl
+
+  module _ (t : List ℕ) where
+    pub start : 0 < length t → Reading base max t 0 t
+    unfolding valueIn
+    start h = record { some = h; low = omega arith; digits = refl; means = refl }
+
+    module _ (v : ℕ) where
+      pub no-digit : (a : ℕ) (r : List ℕ) → Reading base max t v (a ∷ r) → base ≤ digitOf a → digitsIn base max t ≡ Number.Form
+      unfolding digitsIn allDigits
+      no-digit a r R e = rw (lt-ltb 0 (length t) (R .some), R .digits, le-ltb _ _ e)
+
+      -- the range is passed: only the form of what follows is left to judge
+      pub over : (a : ℕ) (r : List ℕ) → Reading base max t v (a ∷ r) → digitOf a < base → max < v * base + digitOf a
+          → digitsIn base max t ≡ pick (allDigits base r) Number.Range Number.Form
+      unfolding digitsIn allDigits valueFrom
+      over a r R d h =
+          let g : max < valueFrom base (v * base + digitOf a) r = omega (arith, grows base (omega arith) r (v * base + digitOf a)) in
+          rw (R .means, lt-leb _ _ g, lt-ltb 0 (length t) (R .some), R .digits, lt-ltb _ _ d)
+
+      pub more : (a : ℕ) (r : List ℕ) → Reading base max t v (a ∷ r) → digitOf a < base → v * base + digitOf a ≤ max
+          → Reading base max t (v * base + digitOf a) r
+      unfolding allDigits valueFrom
+      more a r R d h = record { some = R .some; low = h; digits = R .digits ∙ rw (lt-ltb _ _ d); means = R .means }
+
+      pub done : Reading base max t v [] → digitsIn base max t ≡ Number.Is v
+      unfolding digitsIn allDigits valueFrom
+      done R = rw (lt-ltb 0 (length t) (R .some), R .digits, R .means, le-leb v max (R .low))
