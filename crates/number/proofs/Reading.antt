@@ -32,22 +32,22 @@ module _ (base max : ℕ) where
     start h = record { some = h; low = omega arith; digits = refl; means = refl }
 
     module _ (v : ℕ) where
-      pub no-digit : (a : ℕ) (r : List ℕ) → Reading base max t v (a ∷ r) → base ≤ digitOf a → digitsIn base max t ≡ Number.Form
-      unfolding digitsIn allDigits
-      no-digit a r R e = rw (lt-ltb 0 (length t) (R .some), R .digits, le-ltb _ _ e)
+      -- a turn, at the byte a, whose digit is d
+      module _ (a d : ℕ) (r : List ℕ) (R : Reading base max t v (a ∷ r)) (e : d ≡ digitOf a) where
+        pub no-digit : base ≤ d → digitsIn base max t ≡ Number.Form
+        unfolding digitsIn allDigits
+        no-digit h = rw (lt-ltb 0 (length t) (R .some), R .digits, ← e, le-ltb _ _ h)
 
-      -- the range is passed: only the form of what follows is left to judge
-      pub over : (a : ℕ) (r : List ℕ) → Reading base max t v (a ∷ r) → digitOf a < base → max < v * base + digitOf a
-          → digitsIn base max t ≡ pick (allDigits base r) Number.Range Number.Form
-      unfolding digitsIn allDigits valueFrom
-      over a r R d h =
-          let g : max < valueFrom base (v * base + digitOf a) r = omega (arith, grows base (omega arith) r (v * base + digitOf a)) in
-          rw (R .means, lt-leb _ _ g, lt-ltb 0 (length t) (R .some), R .digits, lt-ltb _ _ d)
+        -- the range is passed: only the form of what follows is left to judge
+        pub over : d < base → max < v * base + d → digitsIn base max t ≡ pick (allDigits base r) Number.Range Number.Form
+        unfolding digitsIn allDigits valueFrom
+        over h m =
+            let g : max < valueFrom base (v * base + d) r = omega (arith, grows base (omega arith) r (v * base + d)) in
+            rw (R .means, ← e, lt-leb _ _ g, lt-ltb 0 (length t) (R .some), R .digits, ← e, lt-ltb _ _ h)
 
-      pub more : (a : ℕ) (r : List ℕ) → Reading base max t v (a ∷ r) → digitOf a < base → v * base + digitOf a ≤ max
-          → Reading base max t (v * base + digitOf a) r
-      unfolding allDigits valueFrom
-      more a r R d h = record { some = R .some; low = h; digits = R .digits ∙ rw (lt-ltb _ _ d); means = R .means }
+        pub more : d < base → v * base + d ≤ max → Reading base max t (v * base + d) r
+        unfolding allDigits valueFrom
+        more h m = record { some = R .some; low = m; digits = R .digits ∙ rw (← e, lt-ltb _ _ h); means = R .means ∙ rw e }
 
       pub done : Reading base max t v [] → digitsIn base max t ≡ Number.Is v
       unfolding digitsIn allDigits valueFrom
