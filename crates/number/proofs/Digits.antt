@@ -1,17 +1,19 @@
 -- Laws of digits and of the number that they stand for.
 -- Assumes nothing.
 use mathlib.Core.Path.{_≡_, refl, sym, ap, _∙_}
-use mathlib.Core.Bool.{Bool, true, false, _&&_}
+use mathlib.Core.Bool.{true, false, _&&_, and-assoc}
 use mathlib.Core.List.{List, [], _∷_, _++_}
 use Prim.Native.Nat.{ℕ, zero, suc, _+_, _-_, _*_, _^_, _<_, _≤_}
-use native.Mathlib.Nat.{le-refl, le-trans, pow-suc, mul-add, add-mul, mul-assoc, mul-comm, zero-mul, le-mul-of-pos-right}
+use native.Mathlib.Nat.{le-refl, pow-zero, pow-suc, mul-le-mul-right, le-mul-of-pos-right}
 use native.Mathlib.Numerals.{add-one}
 use native.Mathlib.Omega.{arith}
 use lib.Dec.{ltb}
-use lib.ListN.{length, getD, drop, drop-of-length-le}
+use lib.ListN.{length, getD, drop, replicate, drop-of-length-le}
 use lib.Seq.{drop-cons}
-use borrow.Author.Tests.{lt-ltb, le-ltb}
+use borrow.Author.Tests.{lt-ltb, le-ltb, ltb-true}
+use Rattle.byte.specs.Byte.{between}
 use Rattle.byte.specs.Digit.{digitOf}
+use Rattle.byte.proofs.Laws.{and-left, and-right}
 use Rattle.number.specs.Digits.{allDigits, valueFrom, valueIn}
 
 module _ (base : ℕ) where
@@ -42,3 +44,57 @@ module _ (base : ℕ) where
   unfolding valueFrom
   grows p [] v = le-refl v
   grows p (a ∷ s) v = omega (arith, le-mul-of-pos-right v p, grows p s (v * base + digitOf a))
+
+  -- a number with digits behind it: it moves up by a place for each
+  shifted : (s : List ℕ) (v : ℕ) → valueFrom base v s ≡ v * base ^ length s + valueFrom base 0 s
+  unfolding valueFrom
+  shifted [] v = rw (pow-zero base) (omega arith)
+  shifted (a ∷ s) v =
+      rw (pow-suc base (length s)) (omega (arith, shifted s (v * base + digitOf a), shifted s (0 * base + digitOf a)))
+
+  pub value-nil : valueIn base [] ≡ 0
+  unfolding valueIn valueFrom
+  value-nil = refl
+
+  pub value-cons : (a : ℕ) (s : List ℕ) → valueIn base (a ∷ s) ≡ digitOf a * base ^ length s + valueIn base s
+  unfolding valueIn valueFrom
+  value-cons a s = omega (arith, shifted s (0 * base + digitOf a))
+
+  followed : (s t : List ℕ) (v : ℕ) → valueFrom base v (s ++ t) ≡ valueFrom base v s * base ^ length t + valueFrom base 0 t
+  unfolding valueFrom
+  followed [] t v = shifted t v
+  followed (a ∷ s) t v = followed s t (v * base + digitOf a)
+
+  pub value-append : (s t : List ℕ) → valueIn base (s ++ t) ≡ valueIn base s * base ^ length t + valueIn base t
+  unfolding valueIn
+  value-append s t = followed s t 0
+
+  pub value-last : (s : List ℕ) (a : ℕ) → valueIn base (s ++ (a ∷ [])) ≡ valueIn base s * base + digitOf a
+  unfolding valueIn valueFrom
+  value-last s a = followed s (a ∷ []) 0 ∙ rw (pow-suc base 0, pow-zero base) (omega arith)
+
+  pub all-digits-append : (s t : List ℕ) → allDigits base (s ++ t) ≡ allDigits base s && allDigits base t
+  unfolding allDigits
+  all-digits-append [] t = refl
+  all-digits-append (a ∷ s) t = rw (all-digits-append s t) (sym (and-assoc (ltb (digitOf a) base) (allDigits base s) (allDigits base t)))
+
+  -- n digits stand for less than the base to the n
+  pub value-below : (s : List ℕ) → allDigits base s ≡ true → valueIn base s < base ^ length s
+  unfolding allDigits valueIn valueFrom
+  value-below [] e = rw (pow-zero base) (omega arith)
+  value-below (a ∷ s) e =
+      let d : digitOf a < base = ltb-true _ _ (and-left _ _ e) in
+      rw (pow-suc base (length s))
+      (omega (arith, value-cons a s, mul-le-mul-right (base ^ length s) d, value-below s (and-right (ltb (digitOf a) base) _ e)))
+
+  -- leading zeros (byte 48) are digits, and change nothing
+  module _ (p : 0 < base) where
+    pub value-zeros : (k : ℕ) (s : List ℕ) → valueIn base (replicate k 48 ++ s) ≡ valueIn base s
+    unfolding valueIn valueFrom digitOf between
+    value-zeros zero s = refl
+    value-zeros (suc k) s = let z : 0 * base + 0 ≡ 0 = omega arith in ap (λ (v : ℕ). valueFrom base v (replicate k 48 ++ s)) z ∙ value-zeros k s
+
+    pub all-digits-zeros : (k : ℕ) (s : List ℕ) → allDigits base (replicate k 48 ++ s) ≡ allDigits base s
+    unfolding allDigits digitOf between
+    all-digits-zeros zero s = refl
+    all-digits-zeros (suc k) s = rw (lt-ltb 0 base p) (all-digits-zeros k s)

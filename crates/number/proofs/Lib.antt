@@ -1,2 +1,5 @@
 pub mod Digits
 pub mod Reading
+pub mod Laws
+pub mod Negative
+pub mod Examples
