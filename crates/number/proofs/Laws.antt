@@ -1,18 +1,16 @@
 -- Laws of numbers read within a range, for callers.
 -- Assumes nothing.
-use mathlib.Core.Path.{_≡_, refl, sym, ap, _∙_}
+use mathlib.Core.Path.{_≡_, refl}
 use mathlib.Core.Bool.{Bool, true, false, _&&_}
-use mathlib.Core.List.{List, [], _∷_, _++_}
-use Prim.Native.Nat.{ℕ, _+_, _^_, _-_, _<_, _≤_}
+use mathlib.Core.List.{List, _∷_, _++_}
+use Prim.Native.Nat.{ℕ, _^_, _-_, _<_, _≤_}
 use native.Mathlib.Omega.{arith}
 use lib.Dec.{ltb, leb, eqb}
-use lib.IntN.{pos, negℤ}
 use lib.ListN.{length, getD, drop, replicate, length-append}
 use borrow.Author.Tests.{lt-ltb, le-leb, lt-leb, ltb-true, leb-true, ne-eqb}
 use Rattle.byte.specs.Byte.{pick}
 use Rattle.byte.proofs.Laws.{and-left, and-right, and-false}
 use Rattle.number.specs.declared.Number.{Number}
-use Rattle.number.specs.declared.Signed.{Signed}
 use Rattle.number.specs.Digits.{allDigits, valueIn}
 use Rattle.number.specs.Number.{digitsIn, unsignedOf, signedOf, positive, negative, AtMost}
 use Rattle.number.proofs.Digits.{value-zeros, all-digits-zeros}

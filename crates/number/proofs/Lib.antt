@@ -2,4 +2,5 @@ pub mod Digits
 pub mod Reading
 pub mod Laws
 pub mod Negative
+pub mod Ascii
 pub mod Examples

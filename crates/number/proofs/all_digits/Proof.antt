@@ -9,9 +9,6 @@ use Rattle.number.specs.Digits.{allDigits}
 use Rattle.number.proofs.Digits.{digit-here, other-here, digits-end}
 use Rattle.number.proofs.all_digits.Statement.{statement}
 use Rattle.number.proofs.all_digits.Tie as tie
-use Rattle.number.proofs.all_digits.Reads as reads
-use Rattle.number.proofs.all_digits.Lts as lts
-use Rattle.byte.proofs.digit_of.Reads as digit-of-reads
 
 abbrev Inv-loop : tie.InvT-loop
 Inv-loop s from base i₀ i = allDigits base (drop from s) ≡ allDigits base (drop i s)
@@ -19,19 +16,15 @@ Inv-loop s from base i₀ i = allDigits base (drop from s) ≡ allDigits base (d
 abbrev μ-loop : tie.MeasureT-loop
 μ-loop s from base i₀ i = length s - i
 
--- src/lib.rt:47:5
 loop-holds : tie.Need-loop-holds Inv-loop μ-loop
 loop-holds c = refl
 
--- src/lib.rt:48:35
 shared-slice-read-digit-of : tie.Need-shared-slice-read-digit-of Inv-loop μ-loop
 shared-slice-read-digit-of c = omega arith
 
--- src/lib.rt:48:20
 digit-of-requires : tie.Need-digit-of-requires Inv-loop μ-loop
 digit-of-requires c κs = search needs
 
--- src/lib.rt:49:13
 returns : tie.Need-returns Inv-loop μ-loop
 returns c =
     let s = c .before .before .before .before in
@@ -39,15 +32,12 @@ returns c =
     let h : a .base ≤ digitOf (getD (a .s .now) (s .loop .i) 0) = omega (arith, c .before .digit-of .ensures, c .if1 .taken) in
     sym (s .loop .inv ∙ other-here (a .base) (a .s .now) (s .loop .i) (c .before .before .before .loop-test .taken) h)
 
--- src/lib.rt:51:9
 add-i : tie.Need-add-i Inv-loop μ-loop
 add-i c = omega arith
 
--- src/lib.rt:47:5
 loop-less : tie.Need-loop-less Inv-loop μ-loop
 loop-less c = omega arith
 
--- src/lib.rt:47:5
 loop-again : tie.Need-loop-again Inv-loop μ-loop
 loop-again c =
     let s = c .before .before .before .before in
@@ -55,7 +45,6 @@ loop-again c =
     let h : digitOf (getD (a .s .now) (s .loop .i) 0) < a .base = omega (arith, c .before .digit-of .ensures, c .if1 .left) in
     s .loop .inv ∙ digit-here (a .base) (a .s .now) (s .loop .i) (c .before .before .before .loop-test .taken) h
 
--- src/lib.rt:43:1
 returns-2 : tie.Need-returns-2 Inv-loop μ-loop
 returns-2 c =
     let s = c .before in

@@ -1,19 +1,13 @@
 use borrow.Author.Needs.{needs}
 use Rattle.number.proofs.beyond.Statement.{statement}
 use Rattle.number.proofs.beyond.Tie as tie
-use Rattle.number.proofs.beyond.Reads as reads
-use Rattle.number.proofs.beyond.Lts as lts
-use Rattle.number.proofs.all_digits.Reads as all-digits-reads
 
--- src/lib.rt:71:8
 all-digits-requires : tie.Need-all-digits-requires
 all-digits-requires c κs = search needs
 
--- src/lib.rt:68:1
 returns : tie.Need-returns
 returns c = rw (← (c .before .all-digits .ensures), c .if1 .taken)
 
--- src/lib.rt:68:1
 returns-2 : tie.Need-returns-2
 returns-2 c = rw (← (c .before .all-digits .ensures), c .if1 .left)
 

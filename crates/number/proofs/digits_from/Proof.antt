@@ -1,6 +1,6 @@
-use mathlib.Core.Path.{_≡_, refl, sym, ap, _∙_}
-use mathlib.Core.List.{List, [], _∷_}
-use Prim.Native.Nat.{ℕ, _+_, _-_, _*_, _<_, _≤_}
+use mathlib.Core.Path.{sym, _∙_}
+use mathlib.Core.List.{_∷_}
+use Prim.Native.Nat.{_+_, _-_, _*_, _≤_}
 use native.Mathlib.Omega.{arith}
 use native.Mathlib.Numerals.{add-one}
 use borrow.Author.Needs.{needs}
@@ -11,11 +11,6 @@ use denote.Ref.{now}
 use Rattle.number.proofs.Reading.{Reading, nothing, start, no-digit, over, more, done}
 use Rattle.number.proofs.digits_from.Statement.{statement}
 use Rattle.number.proofs.digits_from.Tie as tie
-use Rattle.number.proofs.digits_from.Reads as reads
-use Rattle.number.proofs.digits_from.Lts as lts
-use Rattle.byte.proofs.digit_of.Reads as digit-of-reads
-use Rattle.number.proofs.beyond.Reads as beyond-reads
-use Rattle.number.proofs.stays.Reads as stays-reads
 
 abbrev Inv-loop : tie.InvT-loop
 Inv-loop s from base max v₀ i₀ v i = Reading base max (drop from s) v (drop i s)
@@ -23,19 +18,15 @@ Inv-loop s from base max v₀ i₀ v i = Reading base max (drop from s) v (drop 
 abbrev μ-loop : tie.MeasureT-loop
 μ-loop s from base max v₀ i₀ v i = length s - i
 
--- src/lib.rt:83:9
 returns : tie.Need-returns Inv-loop μ-loop
 returns c = let a = c .before .before .args in sym (rw (drop-of-length-le (a .s .now) (c .if1 .taken)) (nothing (a .base) (a .max)))
 
--- src/lib.rt:87:5
 loop-holds : tie.Need-loop-holds Inv-loop μ-loop
 loop-holds c = start _ _ _ (simp length-drop (omega arith))
 
--- src/lib.rt:88:32
 shared-slice-read-digit-of : tie.Need-shared-slice-read-digit-of Inv-loop μ-loop
 shared-slice-read-digit-of c = omega arith
 
--- src/lib.rt:88:13
 digit-of-requires : tie.Need-digit-of-requires Inv-loop μ-loop
 digit-of-requires c κs = search needs
 
@@ -46,27 +37,21 @@ turn : (c : tie.In-loop Inv-loop μ-loop)
     (getD (c .before .before .before .before .args .s .now) (c .before .loop .i) 0 ∷ drop (c .before .loop .i + 1) (c .before .before .before .before .args .s .now))
 turn c = rw (add-one, ← (drop-cons (c .before .before .before .before .args .s .now) (c .before .loop .i) 0 (c .loop-test .taken))) (c .before .loop .inv)
 
--- src/lib.rt:90:13
 returns-2 : tie.Need-returns-2 Inv-loop μ-loop
 returns-2 c = sym (no-digit _ _ _ _ _ _ _ (turn (c .before .before .before)) (c .before .digit-of .ensures) (c .if2 .taken))
 
--- src/lib.rt:92:35
 cast-stays : tie.Need-cast-stays Inv-loop μ-loop
 cast-stays c = omega arith
 
--- src/lib.rt:92:13
 stays-requires : tie.Need-stays-requires Inv-loop μ-loop
 stays-requires c κs = omega arith
 
--- src/lib.rt:93:30
 add-beyond : tie.Need-add-beyond Inv-loop μ-loop
 add-beyond c = omega arith
 
--- src/lib.rt:93:13
 beyond-requires : tie.Need-beyond-requires Inv-loop μ-loop
 beyond-requires c κs = search needs
 
--- src/lib.rt:93:13
 returns-3 : tie.Need-returns-3 Inv-loop μ-loop
 returns-3 c =
     let t = c .before in
@@ -79,33 +64,26 @@ within : (c : tie.Else3 Inv-loop μ-loop)
     ≤ c .before .before .before .before .before .before .before .before .before .args .max
 within c = leb-true _ _ (sym (c .before .stays .ensures) ∙ not-false _ (c .if3 .left))
 
--- src/lib.rt:95:13
 mul-v : tie.Need-mul-v Inv-loop μ-loop
 mul-v c = omega (arith, within c)
 
--- src/lib.rt:95:31
 cast-v : tie.Need-cast-v Inv-loop μ-loop
 cast-v c = omega arith
 
--- src/lib.rt:95:13
 add-v : tie.Need-add-v Inv-loop μ-loop
 add-v c = omega (arith, within c)
 
--- src/lib.rt:96:9
 add-i : tie.Need-add-i Inv-loop μ-loop
 add-i c = omega arith
 
--- src/lib.rt:87:5
 loop-less : tie.Need-loop-less Inv-loop μ-loop
 loop-less c = omega arith
 
--- src/lib.rt:87:5
 loop-again : tie.Need-loop-again Inv-loop μ-loop
 loop-again c =
     let d = c .before .before .before in
     more _ _ _ _ _ _ _ (turn (d .before .before)) (d .digit-of .ensures) (c .before .before .if2 .left) (within c)
 
--- src/lib.rt:79:1
 returns-4 : tie.Need-returns-4 Inv-loop μ-loop
 returns-4 c = let s = c .before in sym (done _ _ _ _ (rw (drop-of-length-le (s .before .before .before .args .s .now) (c .loop-test .left)) at (s .loop .inv)))
 

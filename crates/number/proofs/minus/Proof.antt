@@ -1,4 +1,4 @@
-use mathlib.Core.Path.{_≡_, _∙_}
+use mathlib.Core.Path.{_∙_}
 use Prim.Native.Nat.{_<_, _^_}
 use native.Mathlib.Omega.{arith}
 use mir.Syntax.{w64}
@@ -7,14 +7,10 @@ use Rattle.number.proofs.Negative.{zero-less, negative-fits}
 use borrow.Author.Needs.{needs}
 use Rattle.number.proofs.minus.Statement.{statement}
 use Rattle.number.proofs.minus.Tie as tie
-use Rattle.number.proofs.minus.Reads as reads
-use Rattle.number.proofs.minus.Lts as lts
 
--- src/lib.rt:148:9
 returns : tie.Need-returns
 returns c = rw (c .if1 .taken)
 
--- src/lib.rt:150:7
 cast-result : tie.Need-cast-result
 cast-result c = search needs
 
@@ -22,11 +18,9 @@ cast-result c = search needs
 small : (c : tie.Else1) → c .before .args .n < 2 ^ 63
 small c = omega (arith, c .if1 .left, c .before .pre)
 
--- src/lib.rt:150:5
 sub-result : tie.Need-sub-result
 sub-result c = let n = c .before .args .n in rw (toZ-pos w64 n (small c), zero-less n) (record { sfits = negative-fits n (small c) })
 
--- src/lib.rt:143:1
 returns-2 : tie.Need-returns-2
 returns-2 c = let n = c .before .args .n in toZ-ofZ w64 _ (sub-result c) ∙ rw (toZ-pos w64 n (small c)) (zero-less n)
 

@@ -1,31 +1,22 @@
 use borrow.Author.Needs.{needs}
 use Rattle.number.proofs.read_digits.Statement.{statement}
 use Rattle.number.proofs.read_digits.Tie as tie
-use Rattle.number.proofs.read_digits.Reads as reads
-use Rattle.number.proofs.read_digits.Lts as lts
-use Rattle.number.proofs.digits_from.Reads as digits-from-reads
 
--- src/lib.rt:106:23
 enum-told : tie.Need-enum-told
 enum-told c = search needs
 
--- src/lib.rt:106:23
 digits-from-requires : tie.Need-digits-from-requires
 digits-from-requires c κs = search needs
 
--- src/lib.rt:107:27
 enum-told-2 : tie.Need-enum-told-2
 enum-told-2 c = search needs
 
--- src/lib.rt:107:27
 digits-from-requires-2 : tie.Need-digits-from-requires-2
 digits-from-requires-2 c κs = search needs
 
--- src/lib.rt:102:1
 returns : tie.Need-returns
 returns c = rw (c .before .enum-told .given .1) (c .digits-from .ensures)
 
--- src/lib.rt:102:1
 returns-2 : tie.Need-returns-2
 returns-2 c = rw (c .before .enum-told2 .given .1) (c .digits-from2 .ensures)
 

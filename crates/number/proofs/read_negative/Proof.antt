@@ -1,51 +1,38 @@
-use mathlib.Core.Path.{_≡_, sym, ap, _∙_}
+use mathlib.Core.Path.{sym, ap, _∙_}
 use Prim.Native.Nat.{_^_}
 use denote.Ref.{now}
 use lib.ListN.{drop}
 use mir.Syntax.{w64}
 use mir.ValLaws.{toZ-ofZ}
-use Rattle.number.specs.declared.Signed.{Signed}
 use Rattle.number.specs.Number.{negative}
 use Rattle.number.proofs.Laws.{digits-at-most}
 use borrow.Author.Needs.{needs}
 use Rattle.number.proofs.read_negative.Statement.{statement}
 use Rattle.number.proofs.read_negative.Tie as tie
-use Rattle.number.proofs.read_negative.Reads as reads
-use Rattle.number.proofs.read_negative.Lts as lts
-use Rattle.number.proofs.digits_from.Reads as digits-from-reads
-use Rattle.number.proofs.minus.Reads as minus-reads
 
--- src/lib.rt:156:11
 digits-from-requires : tie.Need-digits-from-requires
 digits-from-requires c κs = search needs
 
--- src/lib.rt:157:20
 enum-known-n : tie.Need-enum-known-n
 enum-known-n c = search needs
 
--- src/lib.rt:157:37
 minus-requires : tie.Need-minus-requires
 minus-requires c κs = rw (sym (c .before .before .before .digits-from .ensures) ∙ c .before .n .given .1) at (digits-at-most 10 (2 ^ 63) (drop 1 (now (c .before .before .before .before .before .args .s))))
 
--- src/lib.rt:158:25
 enum-told : tie.Need-enum-told
 enum-told c = search needs
 
--- src/lib.rt:159:26
 enum-told-2 : tie.Need-enum-told-2
 enum-told-2 c = search needs
 
--- src/lib.rt:153:1
 returns : tie.Need-returns
 returns c =
     let d = c .before in
     rw (toZ-ofZ w64 (c .minus .result) (record { sfits = c .minus .ok }), c .minus .ensures) (ap negative (sym (d .before .n .given .1) ∙ d .before .before .before .digits-from .ensures))
 
--- src/lib.rt:153:1
 returns-2 : tie.Need-returns-2
 returns-2 c = ap negative (sym (c .enum-told .given .1) ∙ c .before .before .digits-from .ensures)
 
--- src/lib.rt:153:1
 returns-3 : tie.Need-returns-3
 returns-3 c = ap negative (sym (c .enum-told2 .given .1) ∙ c .before .before .digits-from .ensures)
 

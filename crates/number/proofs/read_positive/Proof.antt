@@ -1,4 +1,4 @@
-use mathlib.Core.Path.{_≡_, sym, ap, _∙_}
+use mathlib.Core.Path.{sym, ap, _∙_}
 use Prim.Native.Nat.{_-_, _^_, _<_}
 use native.Mathlib.Omega.{arith}
 use denote.Ref.{now}
@@ -10,15 +10,10 @@ use Rattle.number.proofs.Laws.{unsigned-at-most}
 use borrow.Author.Needs.{needs}
 use Rattle.number.proofs.read_positive.Statement.{statement}
 use Rattle.number.proofs.read_positive.Tie as tie
-use Rattle.number.proofs.read_positive.Reads as reads
-use Rattle.number.proofs.read_positive.Lts as lts
-use Rattle.number.proofs.read_unsigned.Reads as read-unsigned-reads
 
--- src/lib.rt:166:11
 read-unsigned-requires : tie.Need-read-unsigned-requires
 read-unsigned-requires c κs = search needs
 
--- src/lib.rt:167:20
 enum-known-n : tie.Need-enum-known-n
 enum-known-n c = search needs
 
@@ -26,27 +21,21 @@ enum-known-n c = search needs
 small : (c : tie.After-known-told) → c .before .n .given .0 .0 < 2 ^ 63
 small c = omega (arith, rw (sym (c .before .before .before .read-unsigned .ensures) ∙ c .before .n .given .1) at (unsigned-at-most (2 ^ 63 - 1) (now (c .before .before .before .before .before .args .s))))
 
--- src/lib.rt:167:37
 cast-t5 : tie.Need-cast-t5
 cast-t5 c = record { sfits = small c }
 
--- src/lib.rt:168:25
 enum-told : tie.Need-enum-told
 enum-told c = search needs
 
--- src/lib.rt:169:26
 enum-told-2 : tie.Need-enum-told-2
 enum-told-2 c = search needs
 
--- src/lib.rt:163:1
 returns : tie.Need-returns
 returns c = ap Signed.Is (toZ-pos w64 (c .before .n .given .0 .0) (small c)) ∙ ap positive (sym (c .before .n .given .1) ∙ c .before .before .before .read-unsigned .ensures)
 
--- src/lib.rt:163:1
 returns-2 : tie.Need-returns-2
 returns-2 c = ap positive (sym (c .enum-told .given .1) ∙ c .before .before .read-unsigned .ensures)
 
--- src/lib.rt:163:1
 returns-3 : tie.Need-returns-3
 returns-3 c = ap positive (sym (c .enum-told2 .given .1) ∙ c .before .before .read-unsigned .ensures)
 

@@ -8,17 +8,13 @@ use borrow.Author.Tests.{le-leb, lt-leb, leb-true, leb-false}
 use borrow.Author.Needs.{needs}
 use Rattle.number.proofs.stays.Statement.{statement}
 use Rattle.number.proofs.stays.Tie as tie
-use Rattle.number.proofs.stays.Reads as reads
-use Rattle.number.proofs.stays.Lts as lts
 
--- src/lib.rt:62:9
 returns : tie.Need-returns
 returns c =
     let a = c .before .args in
     let h : a .max < a .v * a .base + a .d = omega arith in
     sym (lt-leb (a .v * a .base + a .d) (a .max) h)
 
--- src/lib.rt:64:10
 div-result : tie.Need-div-result
 div-result c = search needs
 
@@ -26,7 +22,6 @@ divided : (v base d max : ℕ) → 0 < base → d ≤ max → (t : Bool) → leb
 divided v base d max p h true e = sym (le-leb (v * base + d) max (omega (arith, le-div-iff-mul-le p .0 (leb-true v ((max - d) / base) e))))
 divided v base d max p h false e = sym (lt-leb (v * base + d) max (omega (arith, div-lt-iff-lt-mul p .0 (leb-false v ((max - d) / base) e))))
 
--- src/lib.rt:57:1
 returns-2 : tie.Need-returns-2
 returns-2 c = let a = c .before .args in divided (a .v) (a .base) (a .d) (a .max) (c .before .pre) (c .if1 .left) _ refl
 
