@@ -12,7 +12,7 @@ use Rattle.byte.specs.Byte.{pick}
 use Rattle.byte.proofs.Laws.{and-left, and-right, and-false}
 use Rattle.number.specs.declared.Number.{Number}
 use Rattle.number.specs.Digits.{allDigits, valueIn}
-use Rattle.number.specs.Number.{digitsIn, unsignedOf, signedOf, positive, negative, AtMost}
+use Rattle.number.specs.Number.{digitsIn, unsignedOf, signedOf, positive, negative}
 use Rattle.number.proofs.Digits.{value-zeros, all-digits-zeros}
 
 -- What digits read as, told by their form and their number.
@@ -58,22 +58,14 @@ digits-told base max s n = form (ltb 0 (length s) && allDigits base s) refl
     form true f i = range (leb (valueIn base s) max) refl f i
     form false f i = let z : _≡_ {A = ℕ} 0 1 = cc in record { some = omega arith; all = cc; means = omega arith; low = omega arith }
 
--- A number read is at most max.
-at-most : (max : ℕ) (r : Number) → ((n : ℕ) → r ≡ Number.Is n → n ≤ max) → AtMost max r
-at-most max (Number.Is n) h = h n refl
-at-most max Number.Form h = tt
-at-most max Number.Range h = tt
-
-pub digits-at-most : (base max : ℕ) (s : List ℕ) → AtMost max (digitsIn base max s)
-digits-at-most base max s = at-most max (digitsIn base max s) (λ n e. digits-told base max s n e .low)
-
-pub unsigned-at-most : (max : ℕ) (s : List ℕ) → AtMost max (unsignedOf max s)
+-- A number read is at most max: with it a caller makes it an integer of that range.
+pub unsigned-low : (max : ℕ) (s : List ℕ) (n : ℕ) → unsignedOf max s ≡ Number.Is n → n ≤ max
 unfolding unsignedOf
-unsigned-at-most max s = either (eqb (getD s 0 0) 43)
+unsigned-low max s n = either (eqb (getD s 0 0) 43)
   where
-    either : (t : Bool) → AtMost max (pick t (digitsIn 10 max (drop 1 s)) (digitsIn 10 max s))
-    either true = digits-at-most 10 max (drop 1 s)
-    either false = digits-at-most 10 max s
+    either : (t : Bool) → pick t (digitsIn 10 max (drop 1 s)) (digitsIn 10 max s) ≡ Number.Is n → n ≤ max
+    either true e = digits-told 10 max (drop 1 s) n e .low
+    either false e = digits-told 10 max s n e .low
 
 -- Leading zeros (byte 48) do not matter, however many.
 pub digits-zeros : (base max : ℕ) → 0 < base → (k : ℕ) (s : List ℕ) → 0 < length s → digitsIn base max (replicate k 48 ++ s) ≡ digitsIn base max s

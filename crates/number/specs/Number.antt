@@ -1,6 +1,6 @@
 -- Numbers: "an optional `+`, for signed ones also `-`, then one or more ASCII digits, leading zeros allowed", within a range.
 -- Assumes nothing.
-use Prim.Native.Nat.{ℕ, _-_, _^_, _≤_}
+use Prim.Native.Nat.{ℕ, _-_, _^_}
 use mathlib.Core.Bool.{_&&_}
 use mathlib.Core.List.{List}
 use lib.Dec.{ltb, leb, eqb}
@@ -53,9 +53,3 @@ abbrev pub as32 : Number → Number32
 as32 (Number.Is n) = Number32.Is n
 as32 Number.Form = Number32.Form
 as32 Number.Range = Number32.Range
-
--- what was read, if a number, is at most max
-abbrev pub AtMost : ℕ → Number → Type 0
-AtMost max (Number.Is n) = n ≤ max
-AtMost max Number.Form = Unit {0}
-AtMost max Number.Range = Unit {0}

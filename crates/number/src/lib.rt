@@ -7,7 +7,7 @@ ghost use lib.ListN.{drop};
 ghost use Rattle.byte.specs.Byte.{pick};
 ghost use Rattle.number.specs.declared.Number.{Number};
 ghost use Rattle.number.specs.Digits.{allDigits};
-ghost use Rattle.number.specs.Number.{radixOf, digitsIn, unsignedOf, signedOf, positive, negative, as16, as32, AtMost};
+ghost use Rattle.number.specs.Number.{radixOf, digitsIn, unsignedOf, signedOf, positive, negative, as16, as32};
 
 // The bases that digits are read in.
 pub enum Radix {

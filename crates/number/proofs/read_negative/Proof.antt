@@ -1,11 +1,8 @@
 use mathlib.Core.Path.{sym, ap, _∙_}
-use Prim.Native.Nat.{_^_}
-use denote.Ref.{now}
-use lib.ListN.{drop}
 use mir.Syntax.{w64}
 use mir.ValLaws.{toZ-ofZ}
 use Rattle.number.specs.Number.{negative}
-use Rattle.number.proofs.Laws.{digits-at-most}
+use Rattle.number.proofs.Laws.{digits-told}
 use borrow.Author.Needs.{needs}
 use Rattle.number.proofs.read_negative.Statement.{statement}
 use Rattle.number.proofs.read_negative.Tie as tie
@@ -17,7 +14,7 @@ enum-known-n : tie.Need-enum-known-n
 enum-known-n c = search needs
 
 minus-requires : tie.Need-minus-requires
-minus-requires c κs = rw (sym (c .before .before .before .digits-from .ensures) ∙ c .before .n .given .1) at (digits-at-most 10 (2 ^ 63) (drop 1 (now (c .before .before .before .before .before .args .s))))
+minus-requires c κs = digits-told _ _ _ _ (sym (c .before .before .before .digits-from .ensures) ∙ c .before .n .given .1) .low
 
 enum-told : tie.Need-enum-told
 enum-told c = search needs

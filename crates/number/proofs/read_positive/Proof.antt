@@ -1,12 +1,11 @@
 use mathlib.Core.Path.{sym, ap, _∙_}
-use Prim.Native.Nat.{_-_, _^_, _<_}
+use Prim.Native.Nat.{_^_, _<_}
 use native.Mathlib.Omega.{arith}
-use denote.Ref.{now}
 use mir.Syntax.{w64}
 use mir.ValLaws.{toZ-pos}
 use Rattle.number.specs.declared.Signed.{Signed}
 use Rattle.number.specs.Number.{positive}
-use Rattle.number.proofs.Laws.{unsigned-at-most}
+use Rattle.number.proofs.Laws.{unsigned-low}
 use borrow.Author.Needs.{needs}
 use Rattle.number.proofs.read_positive.Statement.{statement}
 use Rattle.number.proofs.read_positive.Tie as tie
@@ -19,7 +18,7 @@ enum-known-n c = search needs
 
 -- the number read is one that an i64 holds
 small : (c : tie.After-known-told) → c .before .n .given .0 .0 < 2 ^ 63
-small c = omega (arith, rw (sym (c .before .before .before .read-unsigned .ensures) ∙ c .before .n .given .1) at (unsigned-at-most (2 ^ 63 - 1) (now (c .before .before .before .before .before .args .s))))
+small c = omega (arith, unsigned-low _ _ _ (sym (c .before .before .before .read-unsigned .ensures) ∙ c .before .n .given .1))
 
 cast-t5 : tie.Need-cast-t5
 cast-t5 c = record { sfits = small c }

@@ -1,9 +1,7 @@
 use mathlib.Core.Path.{sym, ap, _∙_}
-use Prim.Native.Nat.{_-_, _^_}
 use native.Mathlib.Omega.{arith}
-use denote.Ref.{now}
 use Rattle.number.specs.Number.{as32}
-use Rattle.number.proofs.Laws.{unsigned-at-most}
+use Rattle.number.proofs.Laws.{unsigned-low}
 use borrow.Author.Needs.{needs}
 use Rattle.number.proofs.read_u32.Statement.{statement}
 use Rattle.number.proofs.read_u32.Tie as tie
@@ -15,7 +13,7 @@ enum-known-n : tie.Need-enum-known-n
 enum-known-n c = search needs
 
 cast-t5 : tie.Need-cast-t5
-cast-t5 c = omega (arith, rw (sym (c .before .before .before .read-unsigned .ensures) ∙ c .before .n .given .1) at (unsigned-at-most (2 ^ 32 - 1) (now (c .before .before .before .before .before .args .s))))
+cast-t5 c = omega (arith, unsigned-low _ _ _ (sym (c .before .before .before .read-unsigned .ensures) ∙ c .before .n .given .1))
 
 enum-told : tie.Need-enum-told
 enum-told c = search needs
