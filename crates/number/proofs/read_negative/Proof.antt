@@ -1,3 +1,4 @@
+use native.Mathlib.Omega.{arith}
 use mathlib.Core.Path.{sym, ap, _∙_}
 use mir.Syntax.{w64}
 use mir.ValLaws.{toZ-ofZ}
@@ -14,7 +15,7 @@ enum-known-n : tie.Need-enum-known-n
 enum-known-n c = search needs
 
 minus-requires : tie.Need-minus-requires
-minus-requires c κs = digits-told _ _ _ _ (sym (c .before .before .before .digits-from .ensures) ∙ c .before .n .given .1) .low
+minus-requires c κs = omega (arith, digits-told _ _ _ _ (sym (c .before .before .before .digits-from .ensures) ∙ c .before .n .given .1) .low)
 
 enum-told : tie.Need-enum-told
 enum-told c = search needs

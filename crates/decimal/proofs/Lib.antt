@@ -1,0 +1,5 @@
+pub mod Each
+pub mod Fixed
+pub mod Laws
+pub mod Backward
+pub mod Examples
