@@ -16,7 +16,7 @@ use Rattle.byte.specs.Digit.{digitOf}
 use Rattle.byte.proofs.Laws.{in-between, above-between}
 use Rattle.number.specs.Digits.{allDigits, valueIn}
 use Rattle.number.proofs.Digits.{value-nil, value-last, all-digits-nil, all-digits-cons, all-digits-append}
-use Rattle.decimal.specs.Decimal.{digitByte, fixedDigits}
+use Rattle.decimal.specs.Decimal.{digitByte, fixedDigits, hexDigits}
 use Rattle.decimal.proofs.Each.{Each, each-append, HexByte}
 
 -- the byte of a digit: which bytes it can be, and that it is the digit's
@@ -95,3 +95,20 @@ module _ (base : ℕ) (upper : Bool) where
     -- so no two numbers have the same digits
     pub fixed-same : (width m n : ℕ) → m < base ^ width → n < base ^ width → fixedDigits base upper width m ≡ fixedDigits base upper width n → m ≡ n
     fixed-same width m n h k e = sym (fixed-value width m h) ∙ ap (valueIn base) e ∙ fixed-value width n k
+
+-- The same for hex, as callers cite them.
+module _ (upper : Bool) (width : ℕ) where
+  pub hex-length : (n : ℕ) → length (hexDigits upper width n) ≡ width
+  hex-length = fixed-length 16 upper width
+
+  pub hex-each : (n : ℕ) → Each (HexByte upper) (hexDigits upper width n)
+  hex-each = fixed-each 16 upper (omega arith) (omega arith) width
+
+  pub hex-digits : (n : ℕ) → allDigits 16 (hexDigits upper width n) ≡ true
+  hex-digits = fixed-digits 16 upper (omega arith) (omega arith) width
+
+  pub hex-value : (n : ℕ) → n < 16 ^ width → valueIn 16 (hexDigits upper width n) ≡ n
+  hex-value = fixed-value 16 upper (omega arith) (omega arith) width
+
+  pub hex-same : (m n : ℕ) → m < 16 ^ width → n < 16 ^ width → hexDigits upper width m ≡ hexDigits upper width n → m ≡ n
+  hex-same = fixed-same 16 upper (omega arith) (omega arith) width

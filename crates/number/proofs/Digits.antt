@@ -1,9 +1,9 @@
 -- Laws of digits and of the number that they stand for.
 -- Assumes nothing.
 use mathlib.Core.Path.{_≡_, refl, sym, ap, _∙_}
-use mathlib.Core.Bool.{true, false, _&&_, and-assoc}
+use mathlib.Core.Bool.{Bool, true, false, _&&_, and-assoc}
 use mathlib.Core.List.{List, [], _∷_, _++_}
-use Prim.Native.Nat.{ℕ, zero, suc, _+_, _*_, _^_, _<_, _≤_}
+use Prim.Native.Nat.{ℕ, zero, suc, _+_, _-_, _*_, _^_, _<_, _≤_}
 use native.Mathlib.Nat.{le-refl, pow-zero, pow-suc, mul-le-mul-right, le-mul-of-pos-right}
 use native.Mathlib.Numerals.{add-one}
 use native.Mathlib.Omega.{arith}
@@ -11,10 +11,27 @@ use lib.Dec.{ltb}
 use lib.ListN.{length, getD, drop, replicate, drop-of-length-le}
 use lib.Seq.{drop-cons}
 use borrow.Author.Tests.{lt-ltb, le-ltb, ltb-true}
-use Rattle.byte.specs.Byte.{between}
+use Rattle.byte.specs.Byte.{pick, between}
 use Rattle.byte.specs.Digit.{digitOf}
-use Rattle.byte.proofs.Laws.{and-left, and-right}
+use Rattle.byte.proofs.Laws.{and-left, and-right, between-in}
 use Rattle.number.specs.Digits.{allDigits, valueFrom, valueIn}
+
+-- the digits in base ten are the ASCII digits `0` to `9`
+pub decimal-digit : (b : ℕ) → ltb (digitOf b) 10 ≡ between 48 57 b
+unfolding digitOf
+decimal-digit b = by (between 48 57 b) refl
+  where
+    lower : (t : Bool) → between 97 102 b ≡ t → ltb (pick t (b - 87) 16) 10 ≡ false
+    lower true e = le-ltb (b - 87) 10 (omega (arith, between-in 97 102 b e))
+    lower false e = refl
+
+    upper : (t : Bool) → between 65 70 b ≡ t → ltb (pick t (b - 55) (pick (between 97 102 b) (b - 87) 16)) 10 ≡ false
+    upper true e = le-ltb (b - 55) 10 (omega (arith, between-in 65 70 b e))
+    upper false e = lower (between 97 102 b) refl
+
+    by : (t : Bool) → between 48 57 b ≡ t → ltb (pick t (b - 48) (pick (between 65 70 b) (b - 55) (pick (between 97 102 b) (b - 87) 16))) 10 ≡ t
+    by true e = lt-ltb (b - 48) 10 (omega (arith, between-in 48 57 b e))
+    by false e = upper (between 65 70 b) refl
 
 module _ (base : ℕ) where
   pub all-digits-nil : allDigits base [] ≡ true

@@ -23,10 +23,10 @@ loop-less : tie.Need-loop-less Inv-loop μ-loop
 loop-less c = omega arith
 
 loop-again : tie.Need-loop-again Inv-loop μ-loop
-loop-again c = (omega arith, omega (arith, decimal-longer (c .before .loop .m) (c .loop-test .taken) (c .before .loop .inv .0)))
+loop-again c = (omega arith, omega (arith, decimal-longer (c .before .loop .m) (omega arith) (c .before .loop .inv .0)))
 
 returns : tie.Need-returns Inv-loop μ-loop
-returns c = omega (arith, decimal-one-long (c .before .loop .m) (c .loop-test .left))
+returns c = omega (arith, decimal-one-long (c .before .loop .m) (omega arith))
 
 pub decimal-len-spec : {M : Type 1} → statement M
 decimal-len-spec =

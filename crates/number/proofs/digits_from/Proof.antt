@@ -19,7 +19,10 @@ abbrev μ-loop : tie.MeasureT-loop
 μ-loop s from base max v₀ i₀ v i = length s - i
 
 returns : tie.Need-returns Inv-loop μ-loop
-returns c = let a = c .before .before .args in sym (rw (drop-of-length-le (a .s .now) (c .if1 .taken)) (nothing (a .base) (a .max)))
+returns c =
+    let a = c .before .before .args in
+    let h : length (a .s .now) ≤ a .from = omega arith in
+    sym (rw (drop-of-length-le (a .s .now) h) (nothing (a .base) (a .max)))
 
 loop-holds : tie.Need-loop-holds Inv-loop μ-loop
 loop-holds c = start _ _ _ (simp length-drop (omega arith))
@@ -38,7 +41,10 @@ turn : (c : tie.In-loop Inv-loop μ-loop)
 turn c = rw (add-one, ← (drop-cons (c .before .before .before .before .args .s .now) (c .before .loop .i) 0 (c .loop-test .taken))) (c .before .loop .inv)
 
 returns-2 : tie.Need-returns-2 Inv-loop μ-loop
-returns-2 c = sym (no-digit _ _ _ _ _ _ _ (turn (c .before .before .before)) (c .before .digit-of .ensures) (c .if2 .taken))
+returns-2 c =
+    let d = c .before in
+    let h : d .before .before .before .before .before .before .args .base ≤ d .digit-of .result = omega arith in
+    sym (no-digit _ _ _ _ _ _ _ (turn (d .before .before)) (d .digit-of .ensures) h)
 
 cast-stays : tie.Need-cast-stays Inv-loop μ-loop
 cast-stays c = omega arith
