@@ -5,7 +5,7 @@ use mathlib.Core.Bool.{Bool, true, false}
 use mathlib.Core.List.{List, [], _∷_, map}
 use Prim.Native.Nat.{ℕ, _^_, _-_}
 use Prim.Native.String.{String}
-use Rattle.number.proofs.Ascii.{bytes}
+use Rattle.byte.specs.Ascii.{bytes}
 use Rattle.decimal.specs.Decimal.{digitByte, fixedDigits, hexDigits, decimalBy, decimal}
 
 abbrev decimals : List (ℕ × String)

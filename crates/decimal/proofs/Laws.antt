@@ -16,7 +16,7 @@ use Rattle.number.specs.declared.Number.{Number}
 use Rattle.number.specs.Digits.{allDigits, valueIn}
 use Rattle.number.specs.Number.{digitsIn, unsignedOf}
 use Rattle.number.proofs.Digits.{value-nil, value-last}
-use Rattle.number.proofs.Laws.{digits-is, unsigned-bare}
+use Rattle.number.proofs.Laws.{digits-is, unsigned-nothing, unsigned-bare}
 use Rattle.decimal.specs.Decimal.{digitByte, fixedDigits, decimalBy, decimal}
 use Rattle.decimal.proofs.Each.{Each, each-append}
 use Rattle.decimal.proofs.Fixed.{byte-small, small-back, fixed-digits}
@@ -136,8 +136,7 @@ decimal-value = decimal-by (λ (n : ℕ) (l : List ℕ). valueIn 10 l ≡ n) one
 
 -- digits alone are read as a number with no sign is
 no-sign : (max : ℕ) (l : List ℕ) → Each (In 48 57) l → unsignedOf max l ≡ digitsIn 10 max l
-unfolding unsignedOf
-no-sign max [] f = refl
+no-sign max [] f = unsigned-nothing max
 no-sign max (a ∷ l) f = unsigned-bare max l a (λ e. omega (arith, f .0 .low))
 
 module _ (max n : ℕ) (small : n < 10 ^ 20) (h : n ≤ max) where

@@ -5,13 +5,13 @@ use mathlib.Core.List.{List, [], _∷_, map}
 use Prim.Native.Nat.{ℕ, _^_, _-_}
 use Prim.Native.String.{String}
 use lib.IntN.{pos, negℤ}
+use Rattle.byte.specs.Ascii.{bytes}
 use Rattle.byte.specs.Byte.{between}
 use Rattle.byte.specs.Digit.{digitOf}
 use Rattle.number.specs.declared.Number.{Number}
 use Rattle.number.specs.declared.Signed.{Signed}
 use Rattle.number.specs.Digits.{allDigits, valueFrom, valueIn}
 use Rattle.number.specs.Number.{digitsIn, unsignedOf, signedOf}
-use Rattle.number.proofs.Ascii.{bytes}
 
 -- the end of a range, a piece, and what it reads as
 abbrev unsigned : List (ℕ × String × Number)

@@ -2,7 +2,7 @@
 -- Assumes nothing.
 use mathlib.Core.Path.{_≡_, refl}
 use mathlib.Core.Bool.{Bool, true, false, _&&_}
-use mathlib.Core.List.{List, _∷_, _++_}
+use mathlib.Core.List.{List, [], _∷_, _++_}
 use Prim.Native.Nat.{ℕ, _^_, _-_, _<_, _≤_}
 use native.Mathlib.Omega.{arith}
 use lib.Dec.{ltb, leb, eqb}
@@ -75,6 +75,10 @@ digits-zeros base max p k s h =
     rw (all-digits-zeros base p k s, value-zeros base p k s, lt-ltb _ _ l, lt-ltb _ _ h)
 
 -- Signs: `+` (byte 43) and `-` (byte 45) in front, and any other byte.
+pub unsigned-nothing : (max : ℕ) → unsignedOf max [] ≡ digitsIn 10 max []
+unfolding unsignedOf
+unsigned-nothing max = refl
+
 module _ (max : ℕ) (s : List ℕ) where
   pub unsigned-plus : unsignedOf max (43 ∷ s) ≡ digitsIn 10 max s
   unfolding unsignedOf

@@ -2,5 +2,4 @@ pub mod Digits
 pub mod Reading
 pub mod Laws
 pub mod Negative
-pub mod Ascii
 pub mod Examples
