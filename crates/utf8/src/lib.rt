@@ -1,0 +1,123 @@
+// UTF-8 by RFC 3629: the character at a place of a text, whether a text is well formed, and the same judged byte by byte.
+ghost use mathlib.Core.Path.{_≡_};
+ghost use lib.ListN.{drop};
+ghost use Rattle.utf8.specs.Utf8.{tail, least, greatest, second, two, three, four, charOf, charAt, wellFormed};
+ghost use Rattle.utf8.specs.Bytewise.{startState, firstState, nextState, wholeState};
+
+// A code point and how many bytes it takes; both are 0 where no character begins.
+pub struct Char {
+    pub code: u32,
+    pub len: usize,
+}
+
+const NONE: Char = Char { code: 0, len: 0 };
+
+// How many bytes a character still lacks, and between which two the next one lies.
+pub struct State {
+    pub left: u8,
+    pub lo: u8,
+    pub hi: u8,
+}
+
+const WHOLE: State = State {
+    left: 0,
+    lo: 0x80,
+    hi: 0xbf,
+};
+
+// It lacks a byte that no byte can be.
+const BROKEN: State = State {
+    left: 1,
+    lo: 1,
+    hi: 0,
+};
+
+fn is_tail(b: u8) -> bool
+    ensures { λ r. ⌜ r ≡ tail b ⌝ }
+{
+    byte::is_between(0x80, 0xbf, b)
+}
+
+fn least_of(a: u8) -> u8
+    ensures { λ r. ⌜ r ≡ least a ⌝ }
+{
+    if a == 0xe0 {
+        return 0xa0;
+    }
+    if a == 0xf0 { 0x90 } else { 0x80 }
+}
+
+fn greatest_of(a: u8) -> u8
+    ensures { λ r. ⌜ r ≡ greatest a ⌝ }
+{
+    if a == 0xed {
+        return 0x9f;
+    }
+    if a == 0xf4 { 0x8f } else { 0xbf }
+}
+
+fn is_second(a: u8, b: u8) -> bool
+    ensures { λ r. ⌜ r ≡ second a b ⌝ }
+{
+    byte::is_between(least_of(a), greatest_of(a), b)
+}
+
+pub fn start() -> State
+    ensures { λ r. ⌜ r ≡ startState ⌝ }
+{
+    WHOLE
+}
+
+fn begin(a: u8) -> State
+    ensures { λ r. ⌜ r ≡ firstState a ⌝ }
+{
+    if a < 0x80 {
+        return WHOLE;
+    }
+    if byte::is_between(0xc2, 0xdf, a) {
+        return State {
+            left: 1,
+            lo: 0x80,
+            hi: 0xbf,
+        };
+    }
+    let lo = least_of(a);
+    let hi = greatest_of(a);
+    if byte::is_between(0xe0, 0xef, a) {
+        return State {
+            left: 2,
+            lo: lo,
+            hi: hi,
+        };
+    }
+    if byte::is_between(0xf0, 0xf4, a) {
+        return State {
+            left: 3,
+            lo: lo,
+            hi: hi,
+        };
+    }
+    BROKEN
+}
+
+pub fn next(state: State, b: u8) -> State
+    ensures { λ r. ⌜ r ≡ nextState state b ⌝ }
+{
+    if state.left == 0 {
+        return begin(b);
+    }
+    if byte::is_between(state.lo, state.hi, b) {
+        return State {
+            left: state.left - 1,
+            lo: 0x80,
+            hi: 0xbf,
+        };
+    }
+    BROKEN
+}
+
+pub fn is_whole(state: State) -> bool
+    ensures { λ r. ⌜ r ≡ wholeState state ⌝ }
+{
+    state.left == 0
+}
