@@ -13,7 +13,7 @@ use Rattle.byte.specs.Byte.{pick, between}
 use Rattle.byte.proofs.Laws.{below-between, above-between}
 use Rattle.utf8.specs.declared.Char.{Char}
 use Rattle.utf8.specs.declared.State.{State}
-use Rattle.utf8.specs.Utf8.{char, none, tail, second, least, greatest, two, three, four, charOf, charAt, wellFrom, wellFormed}
+use Rattle.utf8.specs.Utf8.{char, none, tail, second, least, greatest, two, three, four, longer, charOf, charAt, wellFrom, wellFormed}
 use Rattle.utf8.specs.Bytewise.{state, startState, broken, firstState, nextState, wholeState, stateAfter}
 
 -- how the state goes on
@@ -108,7 +108,7 @@ module _ (a : ℕ) (s : List ℕ) where
       by false r t = refl
 
   ends-first : ends startState (a ∷ s) ≡ asked (charAt (a ∷ s)) s
-  unfolding stateAfter nextState firstState charAt charOf
+  unfolding stateAfter nextState firstState charAt charOf longer
   ends-first = by (ltb a 0x80) (between 0xc2 0xdf a) (between 0xe0 0xef a) (between 0xf0 0xf4 a)
     where
       by : (p q r t : Bool) →

@@ -44,13 +44,16 @@ unfoldable pub four : ℕ → ℕ → ℕ → ℕ → Char
 four a b c d =
     pick (second a b && (tail c && tail d)) (char (a % 8 * 262144 + b % 64 * 4096 + c % 64 * 64 + d % 64) 4) none
 
--- UTF8-char = UTF8-1 / UTF8-2 / UTF8-3 / UTF8-4: the character that the bytes a, b, c, d begin with, or none
-unfoldable pub charOf : ℕ → ℕ → ℕ → ℕ → Char
-charOf a b c d =
-    pick (ltb a 0x80) (char a 1)
-    (pick (between 0xc2 0xdf a) (two a b)
+-- UTF8-2 / UTF8-3 / UTF8-4
+unfoldable pub longer : ℕ → ℕ → ℕ → ℕ → Char
+longer a b c d =
+    pick (between 0xc2 0xdf a) (two a b)
     (pick (between 0xe0 0xef a) (three a b c)
-    (pick (between 0xf0 0xf4 a) (four a b c d) none)))
+    (pick (between 0xf0 0xf4 a) (four a b c d) none))
+
+-- UTF8-char = UTF8-1 / UTF8-2 / UTF8-3 / UTF8-4, and UTF8-1 = %x00-7F: the character that the bytes a, b, c, d begin with, or none
+unfoldable pub charOf : ℕ → ℕ → ℕ → ℕ → Char
+charOf a b c d = pick (ltb a 0x80) (char a 1) (longer a b c d)
 
 -- the character that a text begins with, or none
 unfoldable pub charAt : List ℕ → Char
