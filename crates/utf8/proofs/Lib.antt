@@ -1,2 +1,3 @@
 pub mod Laws
 pub mod Bytewise
+pub mod Grammar
