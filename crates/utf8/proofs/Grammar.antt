@@ -22,7 +22,7 @@ in-range lo hi b r = in-between lo hi b (r .low) (r .high)
 
 -- behind most first bytes the second is any tail
 module _ (a b : ℕ) (p : a ≡ 0xe0 → ⊥) (q : a ≡ 0xed → ⊥) (u : a ≡ 0xf0 → ⊥) (v : a ≡ 0xf4 → ⊥) where
-  any-tail : UTF8-tail b → Range (least a) (greatest a) b
+  pub any-tail : UTF8-tail b → Range (least a) (greatest a) b
   unfolding least greatest
   any-tail r = rw (ne-eqb a 0xe0 p, ne-eqb a 0xed q, ne-eqb a 0xf0 u, ne-eqb a 0xf4 v) r
 
@@ -31,15 +31,15 @@ module _ (a b : ℕ) (p : a ≡ 0xe0 → ⊥) (q : a ≡ 0xed → ⊥) (u : a �
   a-tail r = rw (ne-eqb a 0xe0 p, ne-eqb a 0xed q, ne-eqb a 0xf0 u, ne-eqb a 0xf4 v) at r
 
 -- what the definition reads, by the ranges that its bytes lie in
-of-one : (a b c d : ℕ) → Range 0 0x7f a → charOf a b c d ≡ char a 1
+pub of-one : (a b c d : ℕ) → Range 0 0x7f a → charOf a b c d ≡ char a 1
 unfolding charOf
 of-one a b c d r = rw (lt-ltb a 0x80 (omega arith))
 
-of-two : (a b c d : ℕ) → Range 0xc2 0xdf a → UTF8-tail b → charOf a b c d ≡ char (a % 32 * 64 + b % 64) 2
+pub of-two : (a b c d : ℕ) → Range 0xc2 0xdf a → UTF8-tail b → charOf a b c d ≡ char (a % 32 * 64 + b % 64) 2
 unfolding charOf longer def.two
 of-two a b c d r t = rw (le-ltb a 0x80 (omega arith), in-range 0xc2 0xdf a r, in-range 0x80 0xbf b t)
 
-of-three : (a b c d : ℕ) → Range 0xe0 0xef a → Range (least a) (greatest a) b → UTF8-tail c → charOf a b c d ≡ char (a % 16 * 4096 + b % 64 * 64 + c % 64) 3
+pub of-three : (a b c d : ℕ) → Range 0xe0 0xef a → Range (least a) (greatest a) b → UTF8-tail c → charOf a b c d ≡ char (a % 16 * 4096 + b % 64 * 64 + c % 64) 3
 unfolding charOf longer def.three
 of-three a b c d r u t =
     rw (
@@ -50,7 +50,7 @@ of-three a b c d r u t =
       in-range 0x80 0xbf c t,
     )
 
-of-four : (a b c d : ℕ) → Range 0xf0 0xf4 a → Range (least a) (greatest a) b → UTF8-tail c → UTF8-tail d → charOf a b c d ≡ char (a % 8 * 262144 + b % 64 * 4096 + c % 64 * 64 + d % 64) 4
+pub of-four : (a b c d : ℕ) → Range 0xf0 0xf4 a → Range (least a) (greatest a) b → UTF8-tail c → UTF8-tail d → charOf a b c d ≡ char (a % 8 * 262144 + b % 64 * 4096 + c % 64 * 64 + d % 64) 4
 unfolding charOf longer def.four
 of-four a b c d r u t v =
     rw (
@@ -119,7 +119,7 @@ step (UTF8-char.four (UTF8-4.from-f1 {a} {b} {c} {d} r u t v)) s =
 step (UTF8-char.four (UTF8-4.at-f4 {b} {c} {d} u t v)) s = rw (of-four 0xf4 b c d (omega arith) u t v)
 
 -- what is read is one of the grammar's forms
-form-three : (a b c : ℕ) → Range 0xe0 0xef a → Range (least a) (greatest a) b → UTF8-tail c → UTF8-3 (a ∷ b ∷ c ∷ [])
+pub form-three : (a b c : ℕ) → Range 0xe0 0xef a → Range (least a) (greatest a) b → UTF8-tail c → UTF8-3 (a ∷ b ∷ c ∷ [])
 unfolding least greatest
 form-three a b c r u t = by (eqb a 0xe0) refl (eqb a 0xed) refl (ltb a 0xed) refl
   where
@@ -137,7 +137,7 @@ form-three a b c r u t = by (eqb a 0xe0) refl (eqb a 0xed) refl (ltb a 0xed) ref
         let l : 0xed ≤ a = ltb-false a 0xed g in
         UTF8-3.from-ee {a = a} (omega arith) (a-tail a b p q (omega arith) (omega arith) u) t
 
-form-four : (a b c d : ℕ) → Range 0xf0 0xf4 a → Range (least a) (greatest a) b → UTF8-tail c → UTF8-tail d → UTF8-4 (a ∷ b ∷ c ∷ d ∷ [])
+pub form-four : (a b c d : ℕ) → Range 0xf0 0xf4 a → Range (least a) (greatest a) b → UTF8-tail c → UTF8-tail d → UTF8-4 (a ∷ b ∷ c ∷ d ∷ [])
 unfolding least greatest
 form-four a b c d r u t v = by (eqb a 0xf0) refl (eqb a 0xf4) refl
   where

@@ -1,3 +1,4 @@
 pub mod Laws
 pub mod Bytewise
 pub mod Grammar
+pub mod Scalar
