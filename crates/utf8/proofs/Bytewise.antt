@@ -14,6 +14,7 @@ use Rattle.byte.proofs.Laws.{below-between, above-between}
 use Rattle.utf8.specs.declared.Char.{Char}
 use Rattle.utf8.specs.declared.State.{State}
 use Rattle.utf8.specs.Utf8.{char, none, tail, second, least, greatest, two, three, four, longer, charOf, charAt, wellFrom, wellFormed}
+use Rattle.utf8.proofs.Laws.{least-tail}
 use Rattle.utf8.specs.Bytewise.{state, startState, broken, firstState, nextState, wholeState, stateAfter}
 
 -- how the state goes on
@@ -65,15 +66,6 @@ lacks n lo hi h (b ∷ s) = ap (λ (t : State). ends t s) (lack-next n lo hi b) 
     by true = refl
     by false = broken-ends s
 
-least-past : (a : ℕ) → 0 < least a
-unfolding least
-least-past a = by (eqb a 0xe0) (eqb a 0xf0)
-  where
-    by : (q r : Bool) → 0 < pick q 0xa0 (pick r 0x90 0x80)
-    by true r = omega arith
-    by false true = omega arith
-    by false false = omega arith
-
 -- what the definition of a well formed text asks of the character at the front, and of what follows its first byte
 abbrev asked : Char → List ℕ → Bool
 asked c s = ltb 0 (c .len) && ends startState (drop (c .len - 1) s)
@@ -89,7 +81,7 @@ module _ (a : ℕ) (s : List ℕ) where
 
   ends-three : ends (state 2 (least a) (greatest a)) s ≡ asked (three a (getD s 0 0) (getD s 1 0)) s
   unfolding three
-  ends-three = lacks 1 (least a) (greatest a) (least-past a) s ∙ rw (lacks 0 0x80 0xbf (omega arith) (drop 1 s), getD-drop, drop-drop) (by (second a (getD s 0 0)) (tail (getD s 1 0)))
+  ends-three = lacks 1 (least a) (greatest a) (omega (arith, least-tail a)) s ∙ rw (lacks 0 0x80 0xbf (omega arith) (drop 1 s), getD-drop, drop-drop) (by (second a (getD s 0 0)) (tail (getD s 1 0)))
     where
       by : (q r : Bool) → q && (r && ends startState (drop 2 s)) ≡ asked (pick (q && r) (char (a % 16 * 4096 + getD s 0 0 % 64 * 64 + getD s 1 0 % 64) 3) none) s
       by true true = refl
@@ -98,7 +90,7 @@ module _ (a : ℕ) (s : List ℕ) where
 
   ends-four : ends (state 3 (least a) (greatest a)) s ≡ asked (four a (getD s 0 0) (getD s 1 0) (getD s 2 0)) s
   unfolding four
-  ends-four = lacks 2 (least a) (greatest a) (least-past a) s
+  ends-four = lacks 2 (least a) (greatest a) (omega (arith, least-tail a)) s
       ∙ rw (lacks 1 0x80 0xbf (omega arith) (drop 1 s), lacks 0 0x80 0xbf (omega arith) (drop 1 (drop 1 s))) (simp (getD-drop, drop-drop) (by (second a (getD s 0 0)) (tail (getD s 1 0)) (tail (getD s 2 0))))
     where
       by : (q r t : Bool) → q && (r && (t && ends startState (drop 3 s))) ≡ asked (pick (q && (r && t)) (char (a % 8 * 262144 + getD s 0 0 % 64 * 4096 + getD s 1 0 % 64 * 64 + getD s 2 0 % 64) 4) none) s

@@ -13,7 +13,7 @@ use Rattle.byte.proofs.Laws.{between-in, in-between, above-between, and-left, a
 use Rattle.utf8.specs.declared.Char.{Char}
 use Rattle.utf8.specs.Utf8.{char, none, tail, second, least, greatest, longer, charOf, charAt, wellFrom, wellFormed}
 use Rattle.utf8.specs.Utf8 as def
-use Rattle.utf8.proofs.Laws.{inside}
+use Rattle.utf8.proofs.Laws.{inside, take-one, take-two, take-three}
 use Rattle.utf8.specs.Grammar.{Range, UTF8-tail, UTF8-1, UTF8-2, UTF8-3, UTF8-4, UTF8-char, UTF8-octets}
 
 -- a test of a range, from the grammar's range
@@ -149,28 +149,15 @@ form-four a b c d r u t v = by (eqb a 0xf0) refl (eqb a 0xf4) refl
         let q = eqb-false a 0xf4 f in
         UTF8-4.from-f1 {a = a} (omega arith) (a-tail a b (omega arith) (omega arith) p q u) t v
 
--- the bytes that a text has in front, by total reads
-one-of : (s : List ℕ) → 1 ≤ length s → take 1 s ≡ getD s 0 0 ∷ []
-one-of [] h = absurd (omega arith)
-one-of (b ∷ s) h = refl
-
-two-of : (s : List ℕ) → 2 ≤ length s → take 2 s ≡ getD s 0 0 ∷ getD s 1 0 ∷ []
-two-of [] h = absurd (omega arith)
-two-of (b ∷ s) h = rw (one-of s (omega arith))
-
-three-of : (s : List ℕ) → 3 ≤ length s → take 3 s ≡ getD s 0 0 ∷ getD s 1 0 ∷ getD s 2 0 ∷ []
-three-of [] h = absurd (omega arith)
-three-of (b ∷ s) h = rw (two-of s (omega arith))
-
 front-form : (a : ℕ) (s : List ℕ) → 0 < charAt (a ∷ s) .len → UTF8-char (a ∷ take (charAt (a ∷ s) .len - 1) s)
 unfolding charAt
 front-form a s h = by (charAt (a ∷ s)) (reading a (getD s 0 0) (getD s 1 0) (getD s 2 0)) h (inside (a ∷ s))
   where
     by : (x : Char) → Reading a (getD s 0 0) (getD s 1 0) (getD s 2 0) x → 0 < x .len → x .len ≤ suc (length s) → UTF8-char (a ∷ take (x .len - 1) s)
     by x (Reading.one r) h l = UTF8-char.one (UTF8-1.ascii r)
-    by x (Reading.two r t) h l = rw (one-of s (omega arith)) (UTF8-char.two (UTF8-2.from-c2 r t))
-    by x (Reading.three r u t) h l = rw (two-of s (omega arith)) (UTF8-char.three (form-three a _ _ r u t))
-    by x (Reading.four r u t v) h l = rw (three-of s (omega arith)) (UTF8-char.four (form-four a _ _ _ r u t v))
+    by x (Reading.two r t) h l = rw (take-one s (omega arith)) (UTF8-char.two (UTF8-2.from-c2 r t))
+    by x (Reading.three r u t) h l = rw (take-two s (omega arith)) (UTF8-char.three (form-three a _ _ r u t))
+    by x (Reading.four r u t v) h l = rw (take-three s (omega arith)) (UTF8-char.four (form-four a _ _ _ r u t v))
     by x Reading.nothing h l = absurd (omega arith)
 
 octets-from : (s : List ℕ) (k : ℕ) → wellFrom k s ≡ true → UTF8-octets (drop k s)

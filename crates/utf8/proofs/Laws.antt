@@ -5,14 +5,33 @@ use mathlib.Core.Bool.{Bool, true, false, _&&_}
 use mathlib.Core.List.{List, [], _∷_, _++_}
 use Prim.Native.Nat.{ℕ, zero, suc, _+_, _-_, _<_, _≤_, zero-le}
 use native.Mathlib.Omega.{arith}
-use lib.Dec.{ltb}
-use lib.ListN.{length, drop, getD, length-drop, drop-of-length-le}
+use lib.Dec.{ltb, eqb}
+use lib.ListN.{length, take, drop, getD, length-drop, drop-of-length-le}
 use lib.Seq.{drop-cons, drop-drop, getD-drop}
 use borrow.Author.Tests.{lt-ltb, le-ltb, ltb-true}
 use Rattle.byte.specs.Byte.{pick, between}
 use Rattle.byte.proofs.Laws.{past, and-left, and-right}
 use Rattle.utf8.specs.declared.Char.{Char}
-use Rattle.utf8.specs.Utf8.{char, none, tail, second, two, three, four, longer, charOf, charAt, wellFrom, wellFormed}
+use Rattle.utf8.specs.Utf8.{char, none, tail, second, least, greatest, two, three, four, longer, charOf, charAt, wellFrom, wellFormed}
+
+-- a second byte is a tail
+pub least-tail : (a : ℕ) → 0x80 ≤ least a
+unfolding least
+least-tail a = by (eqb a 0xe0) (eqb a 0xf0)
+  where
+    by : (p q : Bool) → 0x80 ≤ pick p 0xa0 (pick q 0x90 0x80)
+    by true q = omega arith
+    by false true = omega arith
+    by false false = omega arith
+
+pub greatest-tail : (a : ℕ) → greatest a ≤ 0xbf
+unfolding greatest
+greatest-tail a = by (eqb a 0xed) (eqb a 0xf4)
+  where
+    by : (p q : Bool) → pick p 0x9f (pick q 0x8f 0xbf) ≤ 0xbf
+    by true q = omega arith
+    by false true = omega arith
+    by false false = omega arith
 
 -- behind k bytes
 pub skip : (k : ℕ) (s : List ℕ) → wellFrom k s ≡ wellFormed (drop k s)
@@ -103,3 +122,16 @@ inside (a ∷ s) =
 
 pub inside-at : (s : List ℕ) (at : ℕ) → at ≤ length s → at + charAt (drop at s) .len ≤ length s
 inside-at s at h = omega (arith, inside (drop at s), length-drop at s)
+
+-- the bytes that a text has in front, by total reads
+pub take-one : (s : List ℕ) → 1 ≤ length s → take 1 s ≡ getD s 0 0 ∷ []
+take-one [] h = absurd (omega arith)
+take-one (b ∷ s) h = refl
+
+pub take-two : (s : List ℕ) → 2 ≤ length s → take 2 s ≡ getD s 0 0 ∷ getD s 1 0 ∷ []
+take-two [] h = absurd (omega arith)
+take-two (b ∷ s) h = rw (take-one s (omega arith))
+
+pub take-three : (s : List ℕ) → 3 ≤ length s → take 3 s ≡ getD s 0 0 ∷ getD s 1 0 ∷ getD s 2 0 ∷ []
+take-three [] h = absurd (omega arith)
+take-three (b ∷ s) h = rw (take-two s (omega arith))

@@ -7,12 +7,15 @@ use Prim.Native.Nat.{ℕ, zero, suc, _+_, _-_, _*_, _/_, _%_, _<_, _≤_}
 use native.Mathlib.Omega.{arith}
 use lib.Dec.{leb, ltb, eqb}
 use lib.ListN.{length, drop, take, getD, take-append-drop}
-use borrow.Author.Tests.{leb-true, leb-false, le-leb, lt-leb, eqb-true, eqb-false}
+use lib.Seq.{drop-at}
+use borrow.Author.Tests.{leb-true, leb-false, le-leb, lt-leb, eqb-true, eqb-false, lt-ltb, ltb-true}
 use Rattle.byte.specs.Byte.{pick}
+use Rattle.byte.proofs.Laws.{and-left, and-right}
 use Rattle.utf8.specs.declared.Char.{Char}
-use Rattle.utf8.specs.Utf8.{char, none, least, greatest, charOf, charAt}
+use Rattle.utf8.specs.Utf8.{char, none, least, greatest, charOf, charAt, wellFrom, wellFormed}
 use Rattle.utf8.specs.Grammar.{Range, UTF8-tail, UTF8-3, UTF8-4}
-use Rattle.utf8.specs.Scalar.{Scalar, Shortest, encoded}
+use Rattle.utf8.specs.Scalar.{Scalar, Scalars, Shortest, encoded, encodedAll, codes, codesFrom}
+use Rattle.utf8.proofs.Laws.{skip, least-tail, greatest-tail, inside, take-one, take-two, take-three}
 use Rattle.utf8.proofs.Grammar.{Reading, reading, form-three, form-four, any-tail, of-one, of-two, of-three, of-four}
 
 shortest-three : (a b c : ℕ) → UTF8-3 (a ∷ b ∷ c ∷ []) → Shortest (char (a % 16 * 4096 + b % 64 * 64 + c % 64) 3)
@@ -118,3 +121,157 @@ read-encoded c v s = by (leb c 0x7f) refl (leb c 0x7ff) refl (leb c 0xffff) refl
         let high : (0xf0 + c / 262144) % 8 ≡ c / 262144 = omega arith in
         let same : (0xf0 + c / 262144) % 8 * 262144 + (0x80 + c / 4096 % 64) % 64 * 4096 + (0x80 + c / 64 % 64) % 64 * 64 + (0x80 + c % 64) % 64 ≡ c = rw (high, tail-bits (c / 4096), tail-bits (c / 64), tail-bits c) (joined-four c) in
         rw (encoded-four c h) (of-four (0xf0 + c / 262144) (0x80 + c / 4096 % 64) (0x80 + c / 64 % 64) (0x80 + c % 64) (omega arith) (second-four c v h) (omega arith) (omega arith) ∙ rw same)
+
+-- and its pieces from a code point
+module _ (k y z : ℕ) (h : y < 64) (l : z < 64) where
+  first-of-three : (k * 4096 + y * 64 + z) / 4096 ≡ k
+  first-of-three = omega arith
+
+  second-of-three : (k * 4096 + y * 64 + z) / 64 % 64 ≡ y
+  second-of-three = omega arith
+
+  third-of-three : (k * 4096 + y * 64 + z) % 64 ≡ z
+  third-of-three = omega arith
+
+  module _ (x : ℕ) (g : x < 64) where
+    first-of-four : (k * 262144 + x * 4096 + y * 64 + z) / 262144 ≡ k
+    first-of-four = omega arith
+
+    second-of-four : (k * 262144 + x * 4096 + y * 64 + z) / 4096 % 64 ≡ x
+    second-of-four = omega arith
+
+    third-of-four : (k * 262144 + x * 4096 + y * 64 + z) / 64 % 64 ≡ y
+    third-of-four = omega arith
+
+    fourth-of-four : (k * 262144 + x * 4096 + y * 64 + z) % 64 ≡ z
+    fourth-of-four = omega arith
+
+-- a second byte is a tail, and a tail is its six bits
+second-tail : (a b : ℕ) → Range (least a) (greatest a) b → UTF8-tail b
+second-tail a b r = omega (arith, least-tail a, greatest-tail a)
+
+tail-is : (b : ℕ) → UTF8-tail b → 0x80 + b % 64 ≡ b
+tail-is b t = omega arith
+
+bits : (b : ℕ) → b % 64 < 64
+bits b = omega arith
+
+bytes-two : (a b : ℕ) → Range 0xc2 0xdf a → UTF8-tail b → encoded (a % 32 * 64 + b % 64) ≡ a ∷ b ∷ []
+bytes-two a b r t =
+    let p : 0xc0 + (a % 32 * 64 + b % 64) / 64 ≡ a = omega arith in
+    let q : 0x80 + (a % 32 * 64 + b % 64) % 64 ≡ b = omega arith in
+    encoded-two (a % 32 * 64 + b % 64) (omega arith) (omega arith) ∙ rw (p, q)
+
+bytes-three : (a b c : ℕ) → Range 0xe0 0xef a → Range (least a) (greatest a) b → UTF8-tail c → encoded (a % 16 * 4096 + b % 64 * 64 + c % 64) ≡ a ∷ b ∷ c ∷ []
+bytes-three a b c r u t =
+    let v = shortest-three a b c (form-three a b c r u t) .three refl in
+    let high : 0xe0 + a % 16 ≡ a = omega arith in
+    encoded-three (a % 16 * 4096 + b % 64 * 64 + c % 64) (v .0) (v .1)
+    ∙ rw (
+      first-of-three (a % 16) (b % 64) (c % 64) (bits b) (bits c),
+      second-of-three (a % 16) (b % 64) (c % 64) (bits b) (bits c),
+      third-of-three (a % 16) (b % 64) (c % 64) (bits b) (bits c),
+      high,
+      tail-is b (second-tail a b u),
+      tail-is c t,
+    )
+
+bytes-four : (a b c d : ℕ) → Range 0xf0 0xf4 a → Range (least a) (greatest a) b → UTF8-tail c → UTF8-tail d → encoded (a % 8 * 262144 + b % 64 * 4096 + c % 64 * 64 + d % 64) ≡ a ∷ b ∷ c ∷ d ∷ []
+bytes-four a b c d r u t w =
+    let v = shortest-four a b c d (form-four a b c d r u t w) .four refl in
+    let high : 0xf0 + a % 8 ≡ a = omega arith in
+    encoded-four (a % 8 * 262144 + b % 64 * 4096 + c % 64 * 64 + d % 64) (v .0)
+    ∙ rw (
+      first-of-four (a % 8) (c % 64) (d % 64) (bits c) (bits d) (b % 64) (bits b),
+      second-of-four (a % 8) (c % 64) (d % 64) (bits c) (bits d) (b % 64) (bits b),
+      third-of-four (a % 8) (c % 64) (d % 64) (bits c) (bits d) (b % 64) (bits b),
+      fourth-of-four (a % 8) (c % 64) (d % 64) (bits c) (bits d) (b % 64) (bits b),
+      high,
+      tail-is b (second-tail a b u),
+      tail-is c t,
+      tail-is d w,
+    )
+
+-- whatever is read as a character is what the table has for its code point
+pub encoded-read : (s : List ℕ) → 0 < charAt s .len → encoded (charAt s .code) ≡ take (charAt s .len) s
+unfolding charAt
+encoded-read [] h = absurd (omega arith)
+encoded-read (a ∷ s) h = by (charAt (a ∷ s)) (reading a (getD s 0 0) (getD s 1 0) (getD s 2 0)) h (inside (a ∷ s))
+  where
+    by : (x : Char) → Reading a (getD s 0 0) (getD s 1 0) (getD s 2 0) x → 0 < x .len → x .len ≤ suc (length s) → encoded (x .code) ≡ take (x .len) (a ∷ s)
+    by x (Reading.one r) h l = encoded-one a (omega arith)
+    by x (Reading.two r t) h l = rw (take-one s (omega arith)) (bytes-two a _ r t)
+    by x (Reading.three r u t) h l = rw (take-two s (omega arith)) (bytes-three a _ _ r u t)
+    by x (Reading.four r u t v) h l = rw (take-three s (omega arith)) (bytes-four a _ _ _ r u t v)
+    by x Reading.nothing h l = absurd (omega arith)
+
+-- the same of whole texts
+codes-skip : (s : List ℕ) (k : ℕ) → codesFrom k s ≡ codes (drop k s)
+unfolding codesFrom
+codes-skip [] zero = refl
+codes-skip [] (suc k) = refl
+codes-skip (a ∷ s) zero = refl
+codes-skip (a ∷ s) (suc k) = codes-skip s k
+
+-- a character in front of a text
+module _ (s : List ℕ) (c : ℕ) where
+  behind : (x : List ℕ) → drop (suc (length x) - 1) (x ++ s) ≡ s
+  behind x = drop-at x s (suc (length x) - 1) (omega arith)
+
+  front-codes : (x : List ℕ) → charAt (x ++ s) ≡ char c (length x) → 0 < length x → codes (x ++ s) ≡ c ∷ codes s
+  unfolding codesFrom
+  front-codes [] e h = absurd (omega arith)
+  front-codes (a ∷ x) e h = rw (e, codes-skip (x ++ s) (suc (length x) - 1), behind x)
+
+  front-well : (x : List ℕ) → charAt (x ++ s) ≡ char c (length x) → 0 < length x → wellFormed (x ++ s) ≡ wellFormed s
+  unfolding wellFrom
+  front-well [] e h = absurd (omega arith)
+  front-well (a ∷ x) e h = rw (e, lt-ltb 0 (suc (length x)) (omega arith), skip (suc (length x) - 1) (x ++ s), behind x)
+
+encoded-some : (c : ℕ) → 0 < length (encoded c)
+unfolding encoded
+encoded-some c = by (leb c 0x7f) (leb c 0x7ff) (leb c 0xffff)
+  where
+    by : (p q r : Bool) → 0 < length (pick p (c ∷ []) (pick q ((0xc0 + c / 64) ∷ (0x80 + c % 64) ∷ []) (pick r ((0xe0 + c / 4096) ∷ (0x80 + c / 64 % 64) ∷ (0x80 + c % 64) ∷ []) ((0xf0 + c / 262144) ∷ (0x80 + c / 4096 % 64) ∷ (0x80 + c / 64 % 64) ∷ (0x80 + c % 64) ∷ []))))
+    by true q r = omega arith
+    by false true r = omega arith
+    by false false true = omega arith
+    by false false false = omega arith
+
+-- a text written from scalar values is well formed, and they are read back
+pub scalars-well : {cs : List ℕ} → Scalars cs → wellFormed (encodedAll cs) ≡ true
+unfolding wellFrom encodedAll
+scalars-well Scalars.none = refl
+scalars-well (Scalars.more {c} {cs} v r) = front-well (encodedAll cs) c (encoded c) (read-encoded c v (encodedAll cs)) (encoded-some c) ∙ scalars-well r
+
+pub scalars-codes : {cs : List ℕ} → Scalars cs → codes (encodedAll cs) ≡ cs
+unfolding codesFrom encodedAll
+scalars-codes Scalars.none = refl
+scalars-codes (Scalars.more {c} {cs} v r) = front-codes (encodedAll cs) c (encoded c) (read-encoded c v (encodedAll cs)) (encoded-some c) ∙ ap (λ (l : List ℕ). c ∷ l) (scalars-codes r)
+
+-- and a well formed text is written from the scalar values that are read
+codes-from : (s : List ℕ) (k : ℕ) → wellFrom k s ≡ true → encodedAll (codesFrom k s) ≡ drop k s
+unfolding wellFrom codesFrom encodedAll
+codes-from [] zero e = refl
+codes-from [] (suc k) e = refl
+codes-from (a ∷ s) (suc k) e = codes-from s k e
+codes-from (a ∷ s) zero e =
+    let some : 0 < charAt (a ∷ s) .len = ltb-true 0 _ (and-left _ _ e) in
+    let n = charAt (a ∷ s) .len - 1 in
+    let l : charAt (a ∷ s) .len ≡ suc n = omega arith in
+    let front : encoded (charAt (a ∷ s) .code) ≡ a ∷ take n s = encoded-read (a ∷ s) some ∙ ap (λ (m : ℕ). take m (a ∷ s)) l in
+    let rest : encodedAll (codesFrom n s) ≡ drop n s = codes-from s n (and-right (ltb 0 (charAt (a ∷ s) .len)) _ e) in
+    rw (front, rest, take-append-drop n s)
+
+pub well-codes : (s : List ℕ) → wellFormed s ≡ true → encodedAll (codes s) ≡ s
+well-codes s e = codes-from s 0 e
+
+scalars-from : (s : List ℕ) (k : ℕ) → Scalars (codesFrom k s)
+unfolding codesFrom
+scalars-from [] zero = Scalars.none
+scalars-from [] (suc k) = Scalars.none
+scalars-from (a ∷ s) (suc k) = scalars-from s k
+scalars-from (a ∷ s) zero = Scalars.more (shortest (a ∷ s) .scalar) (scalars-from s (charAt (a ∷ s) .len - 1))
+
+pub well-scalars : (s : List ℕ) → Scalars (codes s)
+well-scalars s = scalars-from s 0
