@@ -1,0 +1,4 @@
+pub mod Ranges
+pub mod Exactly
+pub mod Marks
+pub mod Examples
