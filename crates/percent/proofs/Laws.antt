@@ -120,3 +120,14 @@ pub plain : (s : List ℕ) → ((i : ℕ) → getD s i 0 ≡ 37 → ⊥) → dec
 unfolding decoded decodedFrom
 plain [] h = refl
 plain (a ∷ s) h = rw (other (a ∷ s) 0 (h 0)) (ap (λ (l : List ℕ). a ∷ l) (plain s (λ i. h (suc i))))
+
+-- a scan that counts the pieces: a turn counts one, and at the end all are counted
+module _ (s : List ℕ) (i n : ℕ) (so-far : length (decoded s) ≡ n + length (decoded (drop i s))) where
+  pub counted : i < length s → length (decoded s) ≡ n + 1 + length (decoded (drop (i + 1 + pieceAt s i .skip) s))
+  counted h = omega (arith, ap length (step s i h))
+
+  pub count-fits : i < length s → n < length s
+  count-fits h = omega (arith, ap length (step s i h), shorter s)
+
+  pub count-done : length s ≤ i → n ≡ length (decoded s)
+  count-done h = omega (arith, ap length (stop s i h))

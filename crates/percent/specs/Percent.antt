@@ -4,10 +4,12 @@ use Prim.Native.Nat.{ℕ, zero, suc, _+_, _*_}
 use mathlib.Core.Bool.{Bool, _&&_}
 use mathlib.Core.List.{List, [], _∷_}
 use lib.Dec.{ltb, eqb}
-use lib.ListN.{getD}
+use lib.ListN.{length, getD}
 use Rattle.byte.specs.Byte.{pick}
 use Rattle.byte.specs.Digit.{digitOf}
+use Rattle.utf8.specs.Utf8.{wellFormed}
 use Rattle.percent.specs.declared.Piece.{Piece}
+use Rattle.percent.specs.declared.Checked.{Checked}
 
 abbrev pub isHex : ℕ → Bool
 isHex b = ltb (digitOf b) 16
@@ -32,3 +34,7 @@ decodedFrom zero (a ∷ s) = pieceAt (a ∷ s) 0 .byte ∷ decodedFrom (pieceAt 
 
 unfoldable pub decoded : List ℕ → List ℕ
 decoded s = decodedFrom 0 s
+
+-- what a scan that writes nothing tells of a text once decoded: its length, and whether it is UTF-8
+abbrev pub checked : List ℕ → Checked
+checked s = record { len = length (decoded s); utf8 = wellFormed (decoded s) }

