@@ -1,6 +1,7 @@
 -- A scan that judges the decoded text byte by byte, by the state of UTF-8: a turn takes the piece that was read, and at the end the state decides.
 -- Assumes nothing.
 use mathlib.Core.Path.{_≡_, sym, ap, _∙_}
+use mathlib.Core.Bool.{Bool}
 use mathlib.Core.List.{List}
 use Prim.Native.Nat.{ℕ, _+_, _<_, _≤_}
 use lib.ListN.{length, drop}
@@ -8,7 +9,7 @@ use Rattle.utf8.specs.declared.State.{State}
 use Rattle.utf8.specs.Utf8.{wellFormed}
 use Rattle.utf8.specs.Bytewise.{startState, nextState, wholeState, stateAfter}
 use Rattle.utf8.proofs.Bytewise.{after-none, after-more, whole-after}
-use Rattle.percent.specs.Percent.{decoded, pieceAt}
+use Rattle.percent.specs.Percent.{decoded, pieceAt, checked}
 use Rattle.percent.proofs.Laws.{step, stop}
 
 module _ (s : List ℕ) (i : ℕ) (t : State) (so-far : stateAfter startState (decoded s) ≡ stateAfter t (decoded (drop i s))) where
@@ -17,3 +18,7 @@ module _ (s : List ℕ) (i : ℕ) (t : State) (so-far : stateAfter startState (d
 
   pub judge-done : length s ≤ i → wholeState t ≡ wellFormed (decoded s)
   judge-done h = sym (whole-after (decoded s) ∙ ap wholeState (so-far ∙ ap (stateAfter t) (stop s i h) ∙ after-none t))
+
+-- what the scan tells, whole
+pub told : (s : List ℕ) (n : ℕ) (u : Bool) → n ≡ length (decoded s) → u ≡ wellFormed (decoded s) → record { len = n; utf8 = u } ≡ checked s
+told s n u a b = rw (a, b)

@@ -53,9 +53,8 @@ pub fn decoded_len(s: &[u8]) -> usize
     let mut i = 0;
     while i < s.len() {
         let p = piece_at(s, i);
-        let skip = p.skip;
         count += 1;
-        i = i + 1 + skip;
+        i = i + 1 + p.skip;
     }
     count
 }
@@ -66,19 +65,18 @@ pub struct Checked {
     pub utf8: bool,
 }
 
+// Both in one pass, with nothing written.
 pub fn check(s: &[u8]) -> Checked
     ensures { λ r. ⌜ r ≡ checked (now (s .entry)) ⌝ }
 {
     let mut state = utf8::start();
-    let mut len = 0;
+    let mut len: usize = 0;
     let mut i = 0;
     while i < s.len() {
         let p = piece_at(s, i);
-        let byte = p.byte;
-        let skip = p.skip;
-        state = utf8::next(state, byte);
+        state = utf8::next(state, p.byte);
         len += 1;
-        i = i + 1 + skip;
+        i = i + 1 + p.skip;
     }
     let utf8 = utf8::is_whole(state);
     Checked { len, utf8 }
@@ -107,11 +105,9 @@ pub fn decode(src: &[u8], dst: &mut [u8], at: usize) -> usize
     let mut i = 0;
     while i < src.len() {
         let p = piece_at(src, i);
-        let b = p.byte;
-        let skip = p.skip;
-        dst[at + k] = b;
+        dst[at + k] = p.byte;
         k += 1;
-        i = i + 1 + skip;
+        i = i + 1 + p.skip;
     }
     at + k
 }

@@ -1,14 +1,13 @@
 -- `check` meets its contract: counted as `decoded_len` does, and judged by the state of UTF-8 in the same turn. Assumes nothing.
-use mathlib.Core.Path.{_≡_, refl, sym, ap, _∙_}
-use mathlib.Core.List.{List}
-use Prim.Native.Nat.{ℕ, _+_, _-_, _<_, _≤_}
+use mathlib.Core.Path.{_≡_, _∙_}
+use Prim.Native.Nat.{_+_, _-_, _≤_}
 use native.Mathlib.Omega.{arith}
 use borrow.Author.Needs.{needs}
 use lib.ListN.{length, drop}
 use Rattle.utf8.specs.Bytewise.{startState, stateAfter}
-use Rattle.percent.specs.Percent.{decoded, pieceAt}
+use Rattle.percent.specs.Percent.{decoded}
 use Rattle.percent.proofs.Laws.{small, counted, count-fits, count-done}
-use Rattle.percent.proofs.Judging.{judged, judge-done}
+use Rattle.percent.proofs.Judging.{judged, judge-done, told}
 use Rattle.percent.proofs.check.Statement.{statement}
 use Rattle.percent.proofs.check.Tie as tie
 
@@ -44,17 +43,18 @@ add-i : tie.Need-add-i Inv-loop μ-loop
 add-i c = omega arith
 
 add-i-2 : tie.Need-add-i-2 Inv-loop μ-loop
-add-i-2 c = omega (arith, skips c)
+add-i-2 c = omega (arith, skips (c .before))
 
 loop-less : tie.Need-loop-less Inv-loop μ-loop
 loop-less c = omega arith
 
 loop-again : tie.Need-loop-again Inv-loop μ-loop
 loop-again c =
-    let l = c .before .before .before in
+    let t = c .before in
+    let l = t .before .before .before in
     let s = l .before .before .before .args .s .now in
-    let h = c .before .before .loop-test .taken in
-    rw (c .next .ensures, c .before .piece-at .ensures) (counted s (l .loop .i) (l .loop .len) (l .loop .inv .0) h, judged s (l .loop .i) (l .loop .state) (l .loop .inv .1) h)
+    let h = t .before .before .loop-test .taken in
+    rw (t .next .ensures, t .before .piece-at .ensures) (counted s (l .loop .i) (l .loop .len) (l .loop .inv .0) h, judged s (l .loop .i) (l .loop .state) (l .loop .inv .1) h)
 
 is-whole-requires : tie.Need-is-whole-requires Inv-loop μ-loop
 is-whole-requires c κs = search needs
@@ -63,7 +63,8 @@ returns : tie.Need-returns Inv-loop μ-loop
 returns c =
     let l = c .before .before in
     let s = l .before .before .before .args .s .now in
-    rw (c .is-whole .ensures, count-done s (l .loop .i) (l .loop .len) (l .loop .inv .0) (c .before .loop-test .left), judge-done s (l .loop .i) (l .loop .state) (l .loop .inv .1) (c .before .loop-test .left))
+    let h = c .before .loop-test .left in
+    told s _ _ (count-done s (l .loop .i) (l .loop .len) (l .loop .inv .0) h) (c .is-whole .ensures ∙ judge-done s (l .loop .i) (l .loop .state) (l .loop .inv .1) h)
 
 pub check-spec : {M : Type 1} → statement M
 check-spec =

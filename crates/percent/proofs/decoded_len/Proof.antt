@@ -1,7 +1,6 @@
 -- `decoded_len` meets its contract: what is counted and what is left to decode make up the whole. Assumes nothing.
-use mathlib.Core.Path.{_≡_, refl, sym, ap, _∙_}
-use mathlib.Core.List.{List}
-use Prim.Native.Nat.{ℕ, _+_, _-_, _<_, _≤_}
+use mathlib.Core.Path.{_≡_}
+use Prim.Native.Nat.{_+_, _-_, _≤_}
 use native.Mathlib.Omega.{arith}
 use borrow.Author.Needs.{needs}
 use lib.ListN.{length, drop}
@@ -32,15 +31,16 @@ add-i : tie.Need-add-i Inv-loop μ-loop
 add-i c = omega arith
 
 add-i-2 : tie.Need-add-i-2 Inv-loop μ-loop
-add-i-2 c = omega (arith, skips c)
+add-i-2 c = omega (arith, skips (c .before))
 
 loop-less : tie.Need-loop-less Inv-loop μ-loop
 loop-less c = omega arith
 
 loop-again : tie.Need-loop-again Inv-loop μ-loop
 loop-again c =
-    let l = c .before .before in
-    rw (c .piece-at .ensures) (counted (l .before .before .args .s .now) (l .loop .i) (l .loop .count) (l .loop .inv) (c .before .loop-test .taken))
+    let t = c .before in
+    let l = t .before .before in
+    rw (t .piece-at .ensures) (counted (l .before .before .args .s .now) (l .loop .i) (l .loop .count) (l .loop .inv) (t .before .loop-test .taken))
 
 returns : tie.Need-returns Inv-loop μ-loop
 returns c = count-done (c .before .before .before .args .s .now) (c .before .loop .i) (c .before .loop .count) (c .before .loop .inv) (c .loop-test .left)

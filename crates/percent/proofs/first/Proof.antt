@@ -1,6 +1,5 @@
 -- `first` meets its contract: the first decoded byte is that of the piece at the start. Assumes nothing.
-use mathlib.Core.Path.{_≡_, sym, ap, _∙_}
-use Prim.Native.Nat.{ℕ}
+use mathlib.Core.Path.{sym, ap, _∙_}
 use Rattle.percent.specs.declared.Piece.{Piece}
 use Rattle.percent.proofs.Laws.{head}
 use borrow.Author.Needs.{needs}

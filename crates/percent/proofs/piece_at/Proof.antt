@@ -1,12 +1,11 @@
 -- `piece_at` meets its contract: each return is one of the laws of a piece. Assumes nothing.
 use mathlib.Core.Path.{_≡_, refl, sym, ap, _∙_}
-use Prim.Native.Nat.{ℕ, _+_, _≤_, _<_}
+use Prim.Native.Nat.{_<_}
 use native.Mathlib.Omega.{arith}
 use lib.Dec.{eqb}
 use lib.ListN.{length, getD}
 use borrow.Author.Tests.{eq-eqb}
 use Rattle.byte.proofs.Laws.{past}
-use Rattle.percent.specs.declared.Piece.{Piece}
 use Rattle.percent.proofs.Laws.{itself, other, no-high, no-low, cut-off, coded}
 use borrow.Author.Needs.{needs}
 use Rattle.percent.proofs.piece_at.Statement.{statement}
@@ -50,7 +49,7 @@ returns-3 : tie.Need-returns-3
 returns-3 c =
     let o = c .before .before .before .before in
     let a = o .before .before .before .args in
-    ap itself (o .before .at .ensures) ∙ sym (no-high (a .s .now) (a .at) (is-percent o) (rw (← (c .before .digit-of .ensures)) (c .if3 .taken)))
+    ap itself (o .before .at .ensures) ∙ sym (no-high (a .s .now) (a .at) (is-percent o) (omega (arith, c .before .digit-of .ensures)))
 
 add-digit-of-2 : tie.Need-add-digit-of-2
 add-digit-of-2 c = search needs
@@ -65,7 +64,7 @@ returns-4 : tie.Need-returns-4
 returns-4 c =
     let o = c .before .before .before .before .before .before .before in
     let a = o .before .before .before .args in
-    ap itself (o .before .at .ensures) ∙ sym (no-low (a .s .now) (a .at) (is-percent o) (rw (← (c .before .digit-of2 .ensures)) (c .if4 .taken)))
+    ap itself (o .before .at .ensures) ∙ sym (no-low (a .s .now) (a .at) (is-percent o) (omega (arith, c .before .digit-of2 .ensures)))
 
 mul-t10 : tie.Need-mul-t10
 mul-t10 c = search needs
@@ -78,7 +77,7 @@ returns-5 c =
     let t = c .before .before .before in
     let o = t .before .before .before .before in
     let a = o .before .before .before .args in
-    rw (c .before .digit-of2 .ensures, t .before .digit-of .ensures) (sym (coded (a .s .now) (a .at) (is-percent o) (rw (← (t .before .digit-of .ensures)) (t .if3 .left)) (rw (← (c .before .digit-of2 .ensures)) (c .if4 .left))))
+    rw (c .before .digit-of2 .ensures, t .before .digit-of .ensures) (sym (coded (a .s .now) (a .at) (is-percent o) (omega (arith, t .before .digit-of .ensures)) (omega (arith, c .before .digit-of2 .ensures))))
 
 pub piece-at-spec : {M : Type 1} → statement M
 piece-at-spec =

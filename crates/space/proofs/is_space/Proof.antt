@@ -1,9 +1,9 @@
 -- `is_space` meets its contract: what is left of the table decides, and below a range's start nothing is left. Assumes nothing.
 use borrow.Author.Needs.{needs}
 use mathlib.Core.Path.{_≡_, refl, sym, _∙_}
-use Prim.Native.Nat.{ℕ, _≤_, _-_, _+_}
+use Prim.Native.Nat.{_≤_, _-_}
 use native.Mathlib.Omega.{arith}
-use lib.ListN.{length, drop}
+use lib.ListN.{drop}
 use Rattle.space.specs.Space.{isSpace, within, spaces}
 use Rattle.space.proofs.Ranges.{ascending, inside, below, above, none}
 use Rattle.space.proofs.is_space.Statement.{statement}
