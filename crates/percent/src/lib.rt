@@ -31,8 +31,9 @@ pub fn piece_at(s: &[u8], at: usize) -> Piece
     if low >= 16 {
         return Piece { byte, skip: 0 };
     }
+    let coded = high * 16 + low;
     Piece {
-        byte: high * 16 + low,
+        byte: coded,
         skip: 2,
     }
 }

@@ -66,11 +66,11 @@ returns-4 c =
     let a = o .before .before .before .args in
     ap itself (o .before .at .ensures) ∙ sym (no-low (a .s .now) (a .at) (is-percent o) (omega (arith, c .before .digit-of2 .ensures)))
 
-mul-t10 : tie.Need-mul-t10
-mul-t10 c = search needs
+mul-coded : tie.Need-mul-coded
+mul-coded c = search needs
 
-add-t12 : tie.Need-add-t12
-add-t12 c = search needs
+add-coded : tie.Need-add-coded
+add-coded c = search needs
 
 returns-5 : tie.Need-returns-5
 returns-5 c =
@@ -95,6 +95,6 @@ piece-at-spec =
     shared-slice-read-digit-of-2
     digit-of-requires-2
     returns-4
-    mul-t10
-    add-t12
+    mul-coded
+    add-coded
     returns-5)
