@@ -20,6 +20,7 @@ use Rattle.percent.specs.Percent.{pieceOf, pieceAt, decodedFrom, decoded
 abbrev pub itself : ℕ → Piece
 itself b = record { byte = b; skip = 0 }
 
+-- a read past the end gives no hex digit
 no-digit : digitOf 0 ≡ 16
 unfolding digitOf between
 no-digit = refl
@@ -115,7 +116,7 @@ unfolding decoded decodedFrom
 empty [] = ((λ e. refl), (λ e. refl))
 empty (a ∷ s) = ((λ e. cc), (λ e. cc))
 
--- so a text without `%` is decoded already
+-- a text without `%` is decoded already
 pub plain : (s : List ℕ) → ((i : ℕ) → getD s i 0 ≡ 37 → ⊥) → decoded s ≡ s
 unfolding decoded decodedFrom
 plain [] h = refl

@@ -11,6 +11,7 @@ use Rattle.utf8.specs.Utf8.{wellFormed}
 use Rattle.percent.specs.declared.Piece.{Piece}
 use Rattle.percent.specs.declared.Checked.{Checked}
 
+-- a hex digit of either case
 abbrev pub isHex : ℕ → Bool
 isHex b = ltb (digitOf b) 16
 
@@ -32,6 +33,7 @@ decodedFrom k [] = []
 decodedFrom (suc k) (a ∷ s) = decodedFrom k s
 decodedFrom zero (a ∷ s) = pieceAt (a ∷ s) 0 .byte ∷ decodedFrom (pieceAt (a ∷ s) 0 .skip) s
 
+-- the text decoded: piece after piece, the scan going on behind each
 unfoldable pub decoded : List ℕ → List ℕ
 decoded s = decodedFrom 0 s
 

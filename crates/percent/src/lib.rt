@@ -83,7 +83,7 @@ pub fn check(s: &[u8]) -> Checked
     Checked { len, utf8 }
 }
 
-// Whether the decoded text has room in `len` bytes from the place `at` on; it is measured only where its own length hasn't.
+// Whether the decoded text has room in `len` bytes from the place `at` on; measured only where the text as it stands has none.
 pub fn has_room(s: &[u8], len: usize, at: usize) -> bool
     ensures { λ r. ⌜ r ≡ leb (at + length (decoded (now (s .entry)))) len ⌝ }
 {
