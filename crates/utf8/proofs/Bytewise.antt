@@ -8,7 +8,7 @@ use native.Mathlib.Omega.{arith}
 use lib.Dec.{ltb, eqb}
 use lib.ListN.{getD, drop}
 use lib.Seq.{drop-drop, getD-drop}
-use borrow.Author.Tests.{ne-eqb}
+use borrow.Author.Tests.{lt-ltb, ne-eqb}
 use Rattle.byte.specs.Byte.{pick, between}
 use Rattle.byte.proofs.Laws.{below-between, above-between}
 use Rattle.utf8.specs.declared.Char.{Char}
@@ -39,11 +39,14 @@ after-last t s b = after-append t s (b ∷ [])
 abbrev ends : State → List ℕ → Bool
 ends t s = wholeState (stateAfter t s)
 
--- the broken state stays broken
+-- no byte lies between 1 and 0, so the broken state stays broken
+nothing-between : (b : ℕ) → between 1 0 b ≡ false
+nothing-between zero = below-between 1 0 0 (omega arith)
+nothing-between (suc b) = above-between 1 0 (suc b) (omega arith)
+
 broken-next : (b : ℕ) → nextState broken b ≡ broken
 unfolding nextState
-broken-next zero = rw (below-between 1 0 0 (omega arith))
-broken-next (suc b) = rw (above-between 1 0 (suc b) (omega arith))
+broken-next b = rw (nothing-between b)
 
 broken-ends : (s : List ℕ) → ends broken s ≡ false
 unfolding stateAfter wholeState
@@ -123,3 +126,68 @@ whole-from zero (a ∷ s) = ap (λ (b : Bool). ltb 0 (charAt (a ∷ s) .len) && 
 -- a text is well formed exactly when the state is whole after its bytes
 pub whole-after : (s : List ℕ) → wellFormed s ≡ wholeState (stateAfter startState s)
 whole-after s = whole-from 0 s
+
+-- where a character is whole, the next byte begins another
+whole-next : (t : State) (b : ℕ) → wholeState t ≡ true → nextState t b ≡ firstState b
+unfolding wholeState nextState
+whole-next t b e = rw e
+
+whole-ends : (t : State) (u : List ℕ) → wholeState t ≡ true → ends t u ≡ ends startState u
+unfolding stateAfter wholeState
+whole-ends t [] e = e
+whole-ends t (b ∷ u) e = ap (λ (x : State). ends x u) (whole-next t b e ∙ sym (whole-next startState b refl))
+
+-- what follows a well formed text is judged by itself
+pub append-well : (s u : List ℕ) → wellFormed s ≡ true → wellFormed (s ++ u) ≡ wellFormed u
+append-well s u e =
+    whole-after (s ++ u) ∙ ap wholeState (after-append startState s u)
+    ∙ whole-ends (stateAfter startState s) u (sym (whole-after s) ∙ e) ∙ sym (whole-after u)
+
+-- no ASCII byte goes on with a character
+abbrev Lacking : State → Type 0
+Lacking t = (a : ℕ) → a < 0x80 → between (t .lo) (t .hi) a ≡ false
+
+module _ (a : ℕ) where
+  first-lacking : Lacking (firstState a)
+  unfolding firstState
+  first-lacking = by (ltb a 0x80) (between 0xc2 0xdf a) (between 0xe0 0xef a) (between 0xf0 0xf4 a)
+    where
+      by : (p q r t : Bool) → Lacking (pick p startState (pick q (state 1 0x80 0xbf) (pick r (state 2 (least a) (greatest a)) (pick t (state 3 (least a) (greatest a)) broken))))
+      by true q r t b h = below-between 0x80 0xbf b h
+      by false true r t b h = below-between 0x80 0xbf b h
+      by false false true t b h = below-between (least a) (greatest a) b (omega (arith, least-tail a))
+      by false false false true b h = below-between (least a) (greatest a) b (omega (arith, least-tail a))
+      by false false false false b h = nothing-between b
+
+  next-lacking : (t : State) → Lacking (nextState t a)
+  unfolding nextState
+  next-lacking t = by (eqb (t .left) 0) (between (t .lo) (t .hi) a)
+    where
+      by : (p q : Bool) → Lacking (pick p (firstState a) (pick q (state (t .left - 1) 0x80 0xbf) broken))
+      by true q b h = first-lacking b h
+      by false true b h = below-between 0x80 0xbf b h
+      by false false b h = nothing-between b
+
+after-lacking : (s : List ℕ) (t : State) → Lacking t → Lacking (stateAfter t s)
+unfolding stateAfter
+after-lacking [] t l = l
+after-lacking (b ∷ s) t l = after-lacking s (nextState t b) (next-lacking b t)
+
+ascii-next : (a : ℕ) → a < 0x80 → (t : State) → Lacking t → nextState t a ≡ pick (wholeState t) startState broken
+unfolding nextState firstState wholeState
+ascii-next a h t l = rw (lt-ltb a 0x80 h, l a h)
+
+ascii-ends : (a : ℕ) (u : List ℕ) → a < 0x80 → (t : State) → Lacking t → ends t (a ∷ u) ≡ wholeState t && ends startState u
+unfolding stateAfter
+ascii-ends a u h t l = ap (λ (x : State). ends x u) (ascii-next a h t l) ∙ by (wholeState t)
+  where
+    by : (p : Bool) → ends (pick p startState broken) u ≡ p && ends startState u
+    by true = refl
+    by false = broken-ends u
+
+-- a text that is cut at an ASCII byte is well formed exactly when both parts are
+pub cut-well : (s : List ℕ) (a : ℕ) (u : List ℕ) → a < 0x80 → wellFormed (s ++ (a ∷ u)) ≡ wellFormed s && wellFormed u
+cut-well s a u h =
+    whole-after (s ++ (a ∷ u)) ∙ ap wholeState (after-append startState s (a ∷ u))
+    ∙ ascii-ends a u h (stateAfter startState s) (after-lacking s startState (λ b l. below-between 0x80 0xbf b l))
+    ∙ rw (whole-after s, whole-after u)
