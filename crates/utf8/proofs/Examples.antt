@@ -1,7 +1,7 @@
 -- The examples of RFC 3629 section 7, and the edges of what is refused, as one table under one statement.
 -- Assumes nothing.
 use mathlib.Core.Path.{_≡_, refl}
-use mathlib.Core.Bool.{Bool, true, false, not, _&&_}
+use mathlib.Core.Bool.{Bool, true, not, _&&_}
 use mathlib.Core.List.{List, [], _∷_}
 use Prim.Native.Nat.{ℕ}
 use Rattle.byte.specs.Byte.{between}
@@ -36,9 +36,9 @@ table =
     -- the ends of each length
     reads (0x7f ∷ 0xc2 ∷ 0x80 ∷ 0xdf ∷ 0xbf ∷ []) (0x7f ∷ 0x80 ∷ 0x7ff ∷ []) ∷
     reads (0xe0 ∷ 0xa0 ∷ 0x80 ∷ 0xef ∷ 0xbf ∷ 0xbf ∷ []) (0x800 ∷ 0xffff ∷ []) ∷
+    reads (0xf0 ∷ 0x90 ∷ 0x80 ∷ 0x80 ∷ 0xf4 ∷ 0x8f ∷ 0xbf ∷ 0xbf ∷ []) (0x10000 ∷ 0x10ffff ∷ []) ∷
     -- on either side of the surrogates
     reads (0xed ∷ 0x9f ∷ 0xbf ∷ 0xee ∷ 0x80 ∷ 0x80 ∷ []) (0xd7ff ∷ 0xe000 ∷ []) ∷
-    reads (0xf0 ∷ 0x90 ∷ 0x80 ∷ 0x80 ∷ 0xf4 ∷ 0x8f ∷ 0xbf ∷ 0xbf ∷ []) (0x10000 ∷ 0x10ffff ∷ []) ∷
     -- a surrogate, U+D800
     refused (0xed ∷ 0xa0 ∷ 0x80 ∷ []) ∷
     -- U+233B4 as two surrogates

@@ -1,34 +1,33 @@
 -- The definition of a well formed text and the grammar of RFC 3629 accept the same texts.
 -- Assumes nothing.
-use mathlib.Core.Path.{_≡_, refl, sym, ap, _∙_}
+use mathlib.Core.Path.{_≡_, refl, _∙_}
 use mathlib.Core.Bool.{Bool, true, false, _&&_}
 use mathlib.Core.List.{List, [], _∷_, _++_}
 use Prim.Native.Nat.{ℕ, zero, suc, _+_, _-_, _*_, _%_, _<_, _≤_}
 use native.Mathlib.Omega.{arith}
 use lib.Dec.{ltb, eqb}
 use lib.ListN.{length, drop, take, getD, take-append-drop}
-use borrow.Author.Tests.{ltb-true, ltb-false, eqb-true, eqb-false, lt-ltb, le-ltb, eq-eqb, ne-eqb}
+use borrow.Author.Tests.{ltb-true, ltb-false, eqb-true, eqb-false, lt-ltb, le-ltb, ne-eqb}
 use Rattle.byte.specs.Byte.{pick, between}
 use Rattle.byte.proofs.Laws.{between-in, in-between, above-between, and-left, and-right}
 use Rattle.utf8.specs.declared.Char.{Char}
 use Rattle.utf8.specs.Utf8.{char, none, tail, second, least, greatest, longer, charOf, charAt, wellFrom, wellFormed}
 use Rattle.utf8.specs.Utf8 as def
-use Rattle.utf8.proofs.Laws.{inside, take-one, take-two, take-three}
+use Rattle.utf8.proofs.Laws.{least-tail, greatest-tail, inside, take-one, take-two, take-three}
 use Rattle.utf8.specs.Grammar.{Range, UTF8-tail, UTF8-1, UTF8-2, UTF8-3, UTF8-4, UTF8-char, UTF8-octets}
 
 -- a test of a range, from the grammar's range
 in-range : (lo hi b : ℕ) → Range lo hi b → between lo hi b ≡ true
 in-range lo hi b r = in-between lo hi b (r .low) (r .high)
 
--- behind most first bytes the second is any tail
+-- a second byte is a tail, and behind most first bytes any tail will do
 module _ (a b : ℕ) (p : a ≡ 0xe0 → ⊥) (q : a ≡ 0xed → ⊥) (u : a ≡ 0xf0 → ⊥) (v : a ≡ 0xf4 → ⊥) where
   pub any-tail : UTF8-tail b → Range (least a) (greatest a) b
   unfolding least greatest
   any-tail r = rw (ne-eqb a 0xe0 p, ne-eqb a 0xed q, ne-eqb a 0xf0 u, ne-eqb a 0xf4 v) r
 
-  a-tail : Range (least a) (greatest a) b → UTF8-tail b
-  unfolding least greatest
-  a-tail r = rw (ne-eqb a 0xe0 p, ne-eqb a 0xed q, ne-eqb a 0xf0 u, ne-eqb a 0xf4 v) at r
+pub second-tail : (a b : ℕ) → Range (least a) (greatest a) b → UTF8-tail b
+second-tail a b r = omega (arith, least-tail a, greatest-tail a)
 
 -- what the definition reads, by the ranges that its bytes lie in
 pub of-one : (a b c d : ℕ) → Range 0 0x7f a → charOf a b c d ≡ char a 1
@@ -130,12 +129,12 @@ form-three a b c r u t = by (eqb a 0xe0) refl (eqb a 0xed) refl (ltb a 0xed) ref
         let p = eqb-false a 0xe0 e in
         let q = eqb-false a 0xed f in
         let l : a < 0xed = ltb-true a 0xed g in
-        UTF8-3.from-e1 {a = a} (omega arith) (a-tail a b p q (omega arith) (omega arith) u) t
+        UTF8-3.from-e1 {a = a} (omega arith) (second-tail a b u) t
     by false e false f false g =
         let p = eqb-false a 0xe0 e in
         let q = eqb-false a 0xed f in
         let l : 0xed ≤ a = ltb-false a 0xed g in
-        UTF8-3.from-ee {a = a} (omega arith) (a-tail a b p q (omega arith) (omega arith) u) t
+        UTF8-3.from-ee {a = a} (omega arith) (second-tail a b u) t
 
 pub form-four : (a b c d : ℕ) → Range 0xf0 0xf4 a → Range (least a) (greatest a) b → UTF8-tail c → UTF8-tail d → UTF8-4 (a ∷ b ∷ c ∷ d ∷ [])
 unfolding least greatest
@@ -147,7 +146,7 @@ form-four a b c d r u t v = by (eqb a 0xf0) refl (eqb a 0xf4) refl
     by false e false f =
         let p = eqb-false a 0xf0 e in
         let q = eqb-false a 0xf4 f in
-        UTF8-4.from-f1 {a = a} (omega arith) (a-tail a b (omega arith) (omega arith) p q u) t v
+        UTF8-4.from-f1 {a = a} (omega arith) (second-tail a b u) t v
 
 front-form : (a : ℕ) (s : List ℕ) → 0 < charAt (a ∷ s) .len → UTF8-char (a ∷ take (charAt (a ∷ s) .len - 1) s)
 unfolding charAt

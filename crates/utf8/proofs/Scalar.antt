@@ -1,6 +1,6 @@
 -- No surrogate, no overlong form and nothing above 10FFFF is read as a character, and every other code point is.
 -- Assumes nothing.
-use mathlib.Core.Path.{_≡_, refl, sym, ap, _∙_}
+use mathlib.Core.Path.{_≡_, refl, ap, _∙_}
 use mathlib.Core.Bool.{Bool, true, false}
 use mathlib.Core.List.{List, [], _∷_, _++_}
 use Prim.Native.Nat.{ℕ, zero, suc, _+_, _-_, _*_, _/_, _%_, _<_, _≤_}
@@ -12,12 +12,13 @@ use borrow.Author.Tests.{leb-true, leb-false, le-leb, lt-leb, eqb-true, eqb-fals
 use Rattle.byte.specs.Byte.{pick}
 use Rattle.byte.proofs.Laws.{and-left, and-right}
 use Rattle.utf8.specs.declared.Char.{Char}
-use Rattle.utf8.specs.Utf8.{char, none, least, greatest, charOf, charAt, wellFrom, wellFormed}
+use Rattle.utf8.specs.Utf8.{char, none, least, greatest, charAt, wellFrom, wellFormed}
 use Rattle.utf8.specs.Grammar.{Range, UTF8-tail, UTF8-3, UTF8-4}
 use Rattle.utf8.specs.Scalar.{Scalar, Scalars, Shortest, encoded, encodedAll, codes, codesFrom}
-use Rattle.utf8.proofs.Laws.{skip, least-tail, greatest-tail, inside, take-one, take-two, take-three}
-use Rattle.utf8.proofs.Grammar.{Reading, reading, form-three, form-four, any-tail, of-one, of-two, of-three, of-four}
+use Rattle.utf8.proofs.Laws.{skip, inside, take-one, take-two, take-three}
+use Rattle.utf8.proofs.Grammar.{Reading, reading, form-three, form-four, any-tail, second-tail, of-one, of-two, of-three, of-four}
 
+-- three bytes and four, by the grammar's forms
 shortest-three : (a b c : ℕ) → UTF8-3 (a ∷ b ∷ c ∷ []) → Shortest (char (a % 16 * 4096 + b % 64 * 64 + c % 64) 3)
 shortest-three a b c (UTF8-3.at-e0 u t) = omega arith
 shortest-three a b c (UTF8-3.from-e1 r u t) = omega arith
@@ -36,11 +37,24 @@ shortest-of a b c d x (Reading.three r u t) = shortest-three a b c (form-three a
 shortest-of a b c d x (Reading.four r u t v) = shortest-four a b c d (form-four a b c d r u t v)
 shortest-of a b c d x Reading.nothing = omega arith
 
--- whatever is read as a character
+-- no character that is read is overlong, a surrogate or above 10FFFF
 pub shortest : (s : List ℕ) → Shortest (charAt s)
 unfolding charAt
 shortest [] = omega arith
 shortest (a ∷ s) = shortest-of a (getD s 0 0) (getD s 1 0) (getD s 2 0) _ (reading a (getD s 0 0) (getD s 1 0) (getD s 2 0))
+
+-- a code point of ASCII is read from that one byte alone
+pub ascii-code : (s : List ℕ) → 0 < charAt s .len → charAt s .code < 0x80 → charAt s ≡ char (getD s 0 0) 1
+unfolding charAt
+ascii-code [] h l = absurd (omega arith)
+ascii-code (a ∷ s) h l = by (charAt (a ∷ s)) (reading a (getD s 0 0) (getD s 1 0) (getD s 2 0)) h l
+  where
+    by : (x : Char) → Reading a (getD s 0 0) (getD s 1 0) (getD s 2 0) x → 0 < x .len → x .code < 0x80 → x ≡ char a 1
+    by x (Reading.one r) h l = refl
+    by x (Reading.two r t) h l = absurd (omega arith)
+    by x (Reading.three r u t) h l = absurd (omega (arith, shortest-three a _ _ (form-three a _ _ r u t) .three refl))
+    by x (Reading.four r u t v) h l = absurd (omega (arith, shortest-four a _ _ _ (form-four a _ _ _ r u t v) .four refl))
+    by x Reading.nothing h l = absurd (omega arith)
 
 -- the row of the table, by the code point's range
 encoded-one : (c : ℕ) → c ≤ 0x7f → encoded c ≡ c ∷ []
@@ -146,10 +160,7 @@ module _ (k y z : ℕ) (h : y < 64) (l : z < 64) where
     fourth-of-four : (k * 262144 + x * 4096 + y * 64 + z) % 64 ≡ z
     fourth-of-four = omega arith
 
--- a second byte is a tail, and a tail is its six bits
-second-tail : (a b : ℕ) → Range (least a) (greatest a) b → UTF8-tail b
-second-tail a b r = omega (arith, least-tail a, greatest-tail a)
-
+-- a tail is its six bits
 tail-is : (b : ℕ) → UTF8-tail b → 0x80 + b % 64 ≡ b
 tail-is b t = omega arith
 

@@ -1,9 +1,9 @@
 -- UTF-8 as RFC 3629 section 4 has it, in a form that computes. A byte past the end reads as 0, which continues no character.
 -- Assumes nothing.
 use Prim.Native.Nat.{ℕ, zero, suc, _+_, _-_, _*_, _%_}
-use mathlib.Core.Bool.{Bool, true, false, _&&_}
+use mathlib.Core.Bool.{Bool, true, _&&_}
 use mathlib.Core.List.{List, [], _∷_}
-use lib.Dec.{leb, ltb, eqb}
+use lib.Dec.{ltb, eqb}
 use lib.ListN.{getD}
 use Rattle.byte.specs.Byte.{pick, between}
 use Rattle.utf8.specs.declared.Char.{Char}

@@ -1,4 +1,4 @@
-use borrow.Author.Tests.{lt-ltb, le-ltb}
+use borrow.Author.Tests.{le-ltb}
 use Rattle.utf8.specs.Bytewise.{firstState}
 use Rattle.byte.proofs.Tests.{tests}
 use borrow.Author.Needs.{needs}
