@@ -42,11 +42,11 @@ module _ (b : ℕ) where
   first-within s i h = omega (arith, first-most (drop i s), length-drop i s)
 
   -- the pieces behind the first: none, or those behind its b
-  abbrev behind : List ℕ → List (List ℕ)
+  abbrev pub behind : List ℕ → List (List ℕ)
   behind [] = []
   behind (a ∷ s) = split b s
 
-  split-first : (s : List ℕ) → split b s ≡ take (firstAt b s) s ∷ behind (drop (firstAt b s) s)
+  pub split-first : (s : List ℕ) → split b s ≡ take (firstAt b s) s ∷ behind (drop (firstAt b s) s)
   unfolding split firstAt
   split-first [] = refl
   split-first (a ∷ s) = by (eqb a b) (split-first s)

@@ -1,0 +1,53 @@
+-- Laws of the place of the first `::`.
+-- Assumes nothing.
+use mathlib.Core.Path.{_≡_, refl, sym, ap, _∙_}
+use mathlib.Core.Bool.{Bool, true, false, _&&_}
+use mathlib.Core.List.{List, [], _∷_}
+use Prim.Native.Nat.{ℕ, zero, suc, _+_, _<_, _≤_}
+use native.Mathlib.Numerals.{add-one}
+use native.Mathlib.Omega.{arith}
+use lib.Dec.{leb}
+use lib.ListN.{length, getD, drop, take, drop-of-length-le, length-drop, length-take}
+use lib.Seq.{drop-cons}
+use borrow.Author.Tests.{leb-true, leb-false}
+use Rattle.byte.specs.Byte.{pick}
+use Rattle.byte.specs.Same.{same, standsAt}
+use Rattle.byte.proofs.Same.{same-lengths, stands-short, stands-within, same-true}
+use Rattle.address.specs.Address.{gapAt}
+
+abbrev colons : List ℕ
+colons = 58 ∷ 58 ∷ []
+
+-- whether `::` stands at a place, told from what is left of the text
+stands-left : (s : List ℕ) (i : ℕ) → standsAt colons i s ≡ same (take 2 (drop i s)) colons
+stands-left s i = by (leb (i + 2) (length s)) refl
+  where
+    by : (t : Bool) → leb (i + 2) (length s) ≡ t → standsAt colons i s ≡ same (take 2 (drop i s)) colons
+    by true e = stands-within colons i s (leb-true (i + 2) (length s) e)
+    by false e =
+        let h : length s < i + 2 = leb-false (i + 2) (length s) e in
+        stands-short colons i s h ∙ sym (same-lengths (take 2 (drop i s)) colons (λ q. omega (arith, length-take 2 (drop i s), length-drop i s)))
+
+module _ (s : List ℕ) (i : ℕ) where
+  pub gap-here : i < length s → standsAt colons i s ≡ true → gapAt (drop i s) ≡ 0
+  unfolding gapAt
+  gap-here h e = let q : same (take 2 (drop i s)) colons ≡ true = sym (stands-left s i) ∙ e in rw (drop-cons s i 0 h, rw (drop-cons s i 0 h) at q)
+
+  pub gap-on : i < length s → standsAt colons i s ≡ false → gapAt (drop i s) ≡ suc (gapAt (drop (i + 1) s))
+  unfolding gapAt
+  gap-on h e = let q : same (take 2 (drop i s)) colons ≡ false = sym (stands-left s i) ∙ e in rw (add-one, drop-cons s i 0 h, rw (drop-cons s i 0 h) at q)
+
+  pub gap-end : length s ≤ i → gapAt (drop i s) ≡ 0
+  unfolding gapAt
+  gap-end h = rw (drop-of-length-le s h)
+
+-- both its bytes are within the text
+pub gap-within : (s : List ℕ) → gapAt s < length s → gapAt s + 2 ≤ length s
+unfolding gapAt
+gap-within [] h = absurd (omega arith)
+gap-within (a ∷ s) h = by (same (take 2 (a ∷ s)) colons) refl (gap-within s) h
+  where
+    by : (t : Bool) → same (take 2 (a ∷ s)) colons ≡ t → (gapAt s < length s → gapAt s + 2 ≤ length s)
+        → pick t 0 (suc (gapAt s)) < suc (length s) → pick t 0 (suc (gapAt s)) + 2 ≤ suc (length s)
+    by true e f h = let q : length (take 2 (a ∷ s)) ≡ 2 = ap length (same-true (take 2 (a ∷ s)) colons e) in omega (arith, length-take 2 (a ∷ s))
+    by false e f h = omega (arith, f (omega arith))

@@ -1,0 +1,83 @@
+use borrow.Author.Needs.{needs}
+use Rattle.address.proofs.push_last.Statement.{statement}
+use Rattle.address.proofs.push_last.Tie as tie
+use Rattle.address.proofs.push_last.Reads as reads
+use Rattle.address.proofs.push_last.Lts as lts
+use Rattle.address.proofs.push.Reads as push-reads
+use Rattle.address.proofs.read_group.Reads as read-group-reads
+use Rattle.address.proofs.read_v4.Reads as read-v4-reads
+
+-- src/lib.rt:166:24
+read-group-requires : tie.Need-read-group-requires
+read-group-requires c κs = search needs
+
+-- src/lib.rt:166:9
+push-requires : tie.Need-push-requires
+push-requires c κs = search needs
+
+-- src/lib.rt:166:9
+returns : tie.Need-returns
+returns c = ?
+
+-- src/lib.rt:168:9
+read-v4-requires : tie.Need-read-v4-requires
+read-v4-requires c κs = search needs
+
+-- src/lib.rt:170:18
+enum-known-four : tie.Need-enum-known-four
+enum-known-four c = search needs
+
+-- src/lib.rt:171:31
+cast-t11 : tie.Need-cast-t11
+cast-t11 c = search needs
+
+-- src/lib.rt:171:13
+push-requires-2 : tie.Need-push-requires-2
+push-requires-2 c κs = search needs
+
+-- src/lib.rt:172:23
+cast-t14 : tie.Need-cast-t14
+cast-t14 c = search needs
+
+-- src/lib.rt:170:24
+push-requires-3 : tie.Need-push-requires-3
+push-requires-3 c κs = search needs
+
+-- src/lib.rt:174:30
+enum-told : tie.Need-enum-told
+enum-told c = search needs
+
+-- src/lib.rt:174:30
+read-group-requires-2 : tie.Need-read-group-requires-2
+read-group-requires-2 c κs = search needs
+
+-- src/lib.rt:174:22
+push-requires-4 : tie.Need-push-requires-4
+push-requires-4 c κs = search needs
+
+-- src/lib.rt:162:1
+returns-2 : tie.Need-returns-2
+returns-2 c = ?
+
+-- src/lib.rt:162:1
+returns-3 : tie.Need-returns-3
+returns-3 c = ?
+
+pub push-last-spec : {M : Type 1} → statement M
+push-last-spec =
+    tie.close
+    (tie.spec
+    read-group-requires
+    push-requires
+    returns
+    read-v4-requires
+    enum-known-four
+    cast-t11
+    push-requires-2
+    cast-t14
+    push-requires-3
+    enum-told
+    read-group-requires-2
+    push-requires-4
+    returns-2
+    returns-3)
