@@ -4,21 +4,22 @@ use mathlib.Core.Path.{_≡_, refl, sym, ap, _∙_}
 use mathlib.Core.Bool.{Bool, true, false, _&&_}
 use mathlib.Core.List.{List, [], _∷_, _++_, append-assoc, append-nil}
 use mathlib.Core.Option.{Option, none, some}
-use Prim.Native.Nat.{ℕ, zero, suc, _+_, _-_, _<_, _≤_}
+use Prim.Native.Nat.{ℕ, suc, _+_, _-_, _/_, _%_, _^_, _<_, _≤_}
 use native.Mathlib.Omega.{arith}
 use lib.Dec.{leb, ltb, eqb}
-use lib.ListN.{length, getD, set, replicate, length-append, length-replicate, getD-replicate, List·getD-append}
+use lib.ListN.{length, getD, take, drop, set, replicate, length-append, length-replicate, getD-replicate, List·getD-append}
 use lib.Seq.{set-append-seam, getD-append-add}
 use borrow.Author.Tests.{le-leb, lt-leb, lt-ltb, le-ltb, leb-true, leb-false, ltb-true, ltb-false, eqb-true}
 use Rattle.byte.specs.Byte.{pick}
 use Rattle.byte.proofs.Laws.{and-false}
-use Rattle.split.specs.Split.{split}
-use Rattle.split.proofs.Split.{split-first}
+use Rattle.split.specs.Split.{firstAt, split}
+use Rattle.split.proofs.Split.{split-first, split-more, split-last}
 use Rattle.address.specs.declared.Group.{Group}
 use Rattle.address.specs.declared.Groups.{Groups}
+use Rattle.address.specs.declared.Four.{Four}
 use Rattle.address.specs.declared.AddressRead.{AddressRead}
-use Rattle.address.specs.Address.{groupOf, before, alone, lastOf, groupsOf, quad, v6, whole, around}
-use Rattle.address.specs.Steps.{packed, refused, pushed, pushedAll, pushedSome, groupAt, quadAt, sixOf, wholeAt, aroundAt}
+use Rattle.address.specs.Address.{v4Of, groupOf, before, alone, lastOf, groupsOf, quad, v6, whole, around}
+use Rattle.address.specs.Steps.{packed, refused, pushed, pushedAll, pushedSome, pushedLast, groupAt, quadAt, sixOf, wholeAt, aroundAt}
 
 -- groups and then a group, groups and then groups
 abbrev pub snoc : Option (List ℕ) → Group → Option (List ℕ)
@@ -39,7 +40,7 @@ follow-before (some l) (Group.Is x) none = refl
 follow-before (some l) (Group.Is x) (some r) = ap some (sym (append-assoc l (x ∷ []) r))
 
 -- the groups of a piece and of those behind it
-pub groups-more : (tail : Bool) (d : Option (List ℕ)) (p s : List ℕ)
+groups-more : (tail : Bool) (d : Option (List ℕ)) (p s : List ℕ)
     → follow d (groupsOf tail (p ∷ split 58 s)) ≡ follow (snoc d (groupOf p)) (groupsOf tail (split 58 s))
 unfolding groupsOf
 groups-more tail d p s = rw (split-first 58 s) (follow-before d (groupOf p) _)
@@ -87,7 +88,7 @@ module _ (l : List ℕ) (x : ℕ) where
       by false true e f = push-full (omega (arith, leb-false (length l) 7 e, leb-true (length l) 8 f))
       by false false e f = push-long (leb-false (length l) 8 f)
 
-pub push-packed : (d : Option (List ℕ)) (x : Group) → pushed (packed d) x ≡ packed (snoc d x)
+push-packed : (d : Option (List ℕ)) (x : Group) → pushed (packed d) x ≡ packed (snoc d x)
 unfolding packed pushed
 push-packed none Group.Not = refl
 push-packed none (Group.Is x) = refl
@@ -102,16 +103,61 @@ push-all [] (some l) = ap (λ (m : List ℕ). packed (some m)) (sym (append-nil 
 push-all (x ∷ xs) none = rw (push-packed none (Group.Is x)) (push-all xs none)
 push-all (x ∷ xs) (some l) = rw (push-packed (some l) (Group.Is x)) (push-all xs (some (l ++ x ∷ [])) ∙ ap (λ (m : List ℕ). packed (some m)) (append-assoc l (x ∷ []) xs))
 
-pub push-last : (d r : Option (List ℕ)) → pushedSome (packed d) r ≡ packed (follow d r)
+push-last : (d r : Option (List ℕ)) → pushedSome (packed d) r ≡ packed (follow d r)
 unfolding packed
 push-last none none = refl
 push-last (some l) none = refl
 push-last none (some r) = push-all r none
 push-last (some l) (some r) = push-all r (some l)
 
-pub groups-last : (tail : Bool) (p : List ℕ) → groupsOf tail (p ∷ []) ≡ lastOf tail p
-unfolding groupsOf
-groups-last tail p = refl
+-- the last piece: a group, or where an IPv4 text may stand what that stands for
+push-alone : (g : Groups) (x : Group) → pushed g x ≡ pushedSome g (alone x)
+unfolding pushed pushedAll
+push-alone g (Group.Is x) = refl
+push-alone g Group.Not = refl
+
+module _ (g : Groups) (p : List ℕ) (tail : Bool) where
+  pub last-plain : tail ≡ false → pushed g (groupOf p) ≡ pushedLast tail g p
+  last-plain e = rw e (push-alone g (groupOf p))
+
+  pub last-four : tail ≡ true → (v : ℕ) → v4Of p ≡ Four.Is v → pushed (pushed g (Group.Is (v / 2 ^ 16))) (Group.Is (v % 2 ^ 16)) ≡ pushedLast tail g p
+  unfolding pushedAll
+  last-four e v f = rw (e, f)
+
+  pub last-group : tail ≡ true → v4Of p ≡ Four.Not → pushed g (groupOf p) ≡ pushedLast tail g p
+  last-group e f = rw (e, f) (push-alone g (groupOf p))
+
+-- Groups read piece by piece: g holds those before the place i, and the text's are these and what stands from i on.
+pub record Reading (tail : Bool) (s : List ℕ) (g : Groups) (i : ℕ) : Type 0 where
+  pub done : Option (List ℕ)
+  pub holds : g ≡ packed done
+  pub rest : groupsOf tail (split 58 s) ≡ follow done (groupsOf tail (split 58 (drop i s)))
+
+follow-nothing : (r : Option (List ℕ)) → r ≡ follow (some []) r
+follow-nothing none = refl
+follow-nothing (some r) = refl
+
+module _ (tail : Bool) (s : List ℕ) where
+  pub reading-start : (g : Groups) → g ≡ packed (some []) → Reading tail s g 0
+  reading-start g h = record { done = some []; holds = h; rest = follow-nothing (groupsOf tail (split 58 s)) }
+
+  -- the next piece ends at e
+  module _ (g : Groups) (i e : ℕ) (at : e ≡ i + firstAt 58 (drop i s)) (R : Reading tail s g i) where
+    pub reading-more : e < length s → (x : Group) → x ≡ groupOf (take (e - i) (drop i s)) → (m : Groups) → m ≡ pushed g x → Reading tail s m (e + 1)
+    reading-more h x q m k =
+        let p : List ℕ = take (e - i) (drop i s) in
+        record {
+          done = snoc (R .done) (groupOf p);
+          holds = k ∙ ap (pushed g) q ∙ ap (λ (y : Groups). pushed y (groupOf p)) (R .holds) ∙ push-packed (R .done) (groupOf p);
+          rest = R .rest ∙ ap (λ (l : List (List ℕ)). follow (R .done) (groupsOf tail l)) (split-more 58 s i e at h) ∙ groups-more tail (R .done) p (drop (e + 1) s);
+        }
+
+    pub reading-last : length s ≤ e → pushedLast tail g (take (e - i) (drop i s)) ≡ packed (groupsOf tail (split 58 s))
+    unfolding groupsOf
+    reading-last h =
+        let p : List ℕ = take (e - i) (drop i s) in
+        ap (λ (x : Groups). pushedLast tail x p) (R .holds) ∙ push-last (R .done) (lastOf tail p)
+        ∙ sym (ap packed (R .rest ∙ ap (λ (l : List (List ℕ)). follow (R .done) (groupsOf tail l)) (split-last 58 s i e at h)))
 
 -- the group at a place of two lists that are held, and of the eight groups that they make
 abbrev eight : List ℕ → List ℕ → List ℕ

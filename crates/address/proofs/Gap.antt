@@ -1,19 +1,21 @@
--- Laws of the place of the first `::`.
+-- Laws of the place of the first `::`, and of what stands before and behind it.
 -- Assumes nothing.
 use mathlib.Core.Path.{_≡_, refl, sym, ap, _∙_}
 use mathlib.Core.Bool.{Bool, true, false, _&&_}
 use mathlib.Core.List.{List, [], _∷_}
+use mathlib.Core.Option.{some}
 use Prim.Native.Nat.{ℕ, zero, suc, _+_, _<_, _≤_}
 use native.Mathlib.Numerals.{add-one}
 use native.Mathlib.Omega.{arith}
 use lib.Dec.{leb}
 use lib.ListN.{length, getD, drop, take, drop-of-length-le, length-drop, length-take}
 use lib.Seq.{drop-cons}
-use borrow.Author.Tests.{leb-true, leb-false}
+use borrow.Author.Tests.{lt-ltb, le-ltb, leb-true, leb-false}
 use Rattle.byte.specs.Byte.{pick}
 use Rattle.byte.specs.Same.{same, standsAt}
 use Rattle.byte.proofs.Same.{same-lengths, stands-short, stands-within, same-true}
-use Rattle.address.specs.Address.{gapAt}
+use Rattle.split.specs.Split.{split}
+use Rattle.address.specs.Address.{groupsOf, sideOf, gapAt, whole, around, v6Of}
 
 abbrev colons : List ℕ
 colons = 58 ∷ 58 ∷ []
@@ -51,3 +53,23 @@ gap-within (a ∷ s) h = by (same (take 2 (a ∷ s)) colons) refl (gap-within s)
         → pick t 0 (suc (gapAt s)) < suc (length s) → pick t 0 (suc (gapAt s)) + 2 ≤ suc (length s)
     by true e f h = let q : length (take 2 (a ∷ s)) ≡ 2 = ap length (same-true (take 2 (a ∷ s)) colons e) in omega (arith, length-take 2 (a ∷ s))
     by false e f h = omega (arith, f (omega arith))
+
+-- what an IPv6 text is, by the place of its first `::`
+module _ (s : List ℕ) (g : ℕ) (at : g ≡ gapAt s) where
+  pub v6-whole : length s ≤ g → v6Of s ≡ whole (groupsOf true (split 58 s))
+  unfolding v6Of
+  v6-whole h = rw (← at, le-ltb g (length s) h)
+
+  pub v6-around : g < length s → v6Of s ≡ around (sideOf false (take g s)) (sideOf true (drop (g + 2) s))
+  unfolding v6Of
+  v6-around h = rw (← at, lt-ltb g (length s) h)
+
+pub side-empty : (tail : Bool) (s : List ℕ) → length s ≡ 0 → sideOf tail s ≡ some []
+unfolding sideOf
+side-empty tail [] h = refl
+side-empty tail (a ∷ s) h = absurd (omega arith)
+
+pub side-some : (tail : Bool) (s : List ℕ) → (length s ≡ 0 → ⊥) → sideOf tail s ≡ groupsOf tail (split 58 s)
+unfolding sideOf
+side-some tail [] h = absurd (h refl)
+side-some tail (a ∷ s) h = refl

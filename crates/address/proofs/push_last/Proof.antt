@@ -1,3 +1,10 @@
+use Prim.Native.Nat.{_%_, _^_}
+use mathlib.Core.Path.{_≡_, refl, sym, ap, _∙_}
+use borrow.Author.Tests.{not-true, not-false}
+use Rattle.address.specs.declared.Group.{Group}
+use Rattle.address.specs.declared.Groups.{Groups}
+use Rattle.address.specs.Steps.{pushed}
+use Rattle.address.proofs.Eight.{last-plain, last-four, last-group}
 use borrow.Author.Needs.{needs}
 use Rattle.address.proofs.push_last.Statement.{statement}
 use Rattle.address.proofs.push_last.Tie as tie
@@ -17,7 +24,10 @@ push-requires c κs = search needs
 
 -- src/lib.rt:166:9
 returns : tie.Need-returns
-returns c = ?
+returns c =
+    let t = c .before .before in
+    let a = t .before .before .args in
+    c .push .ensures ∙ ap (pushed (a .g)) (c .before .read-group .ensures) ∙ last-plain (a .g) (a .p .now) (a .tail) (not-true (a .tail) (t .if1 .taken))
 
 -- src/lib.rt:168:9
 read-v4-requires : tie.Need-read-v4-requires
@@ -57,11 +67,22 @@ push-requires-4 c κs = search needs
 
 -- src/lib.rt:162:1
 returns-2 : tie.Need-returns-2
-returns-2 c = ?
+returns-2 c =
+    let k = c .before .before .before in
+    let v = k .before .before in
+    let a = v .before .before .before .args in
+    let n = k .four .given .0 .0 in
+    c .push3 .ensures ∙ ap (λ (g : Groups). pushed g (Group.Is (n % 2 ^ 16))) (c .before .push2 .ensures)
+    ∙ last-four (a .g) (a .p .now) (a .tail) (not-false (a .tail) (v .before .if1 .left)) n (sym (v .read-v4 .ensures) ∙ k .four .given .1)
 
 -- src/lib.rt:162:1
 returns-3 : tie.Need-returns-3
-returns-3 c = ?
+returns-3 c =
+    let k = c .before .before in
+    let v = k .before .before in
+    let a = v .before .before .before .args in
+    c .push4 .ensures ∙ ap (pushed (a .g)) (c .before .read-group2 .ensures)
+    ∙ last-group (a .g) (a .p .now) (a .tail) (not-false (a .tail) (v .before .if1 .left)) (sym (v .read-v4 .ensures) ∙ k .enum-told .given .1)
 
 pub push-last-spec : {M : Type 1} → statement M
 push-last-spec =
