@@ -58,16 +58,16 @@ module _ (b : ℕ) where
 
   -- the pieces from the place i on, whose first piece ends at e: before a b, or with the text
   module _ (s : List ℕ) (i e : ℕ) (at : e ≡ i + firstAt b (drop i s)) where
-    from-here : split b (drop i s) ≡ take (e - i) (drop i s) ∷ behind (drop e s)
-    from-here =
+    pub split-here : split b (drop i s) ≡ take (e - i) (drop i s) ∷ behind (drop e s)
+    split-here =
         let q : e - i ≡ firstAt b (drop i s) = omega arith in
         rw q (split-first (drop i s) ∙ rw (drop-drop, ← at))
 
     pub split-more : e < length s → split b (drop i s) ≡ take (e - i) (drop i s) ∷ split b (drop (e + 1) s)
-    split-more h = from-here ∙ rw (add-one, drop-cons s e 0 h)
+    split-more h = split-here ∙ rw (add-one, drop-cons s e 0 h)
 
     pub split-last : length s ≤ e → split b (drop i s) ≡ take (e - i) (drop i s) ∷ []
-    split-last h = from-here ∙ rw (drop-of-length-le s h)
+    split-last h = split-here ∙ rw (drop-of-length-le s h)
 
   -- a piece is free of b where the first b of it is nowhere
   pub record Free (p : List ℕ) : Type 0 where
