@@ -1,0 +1,46 @@
+// The leaves beside Rust: every answer of the proved archive, with every byte that it was lent, against Rust's own library.
+// usage: beside small|large SEED     the last line is 'differential: N compared, D differ'
+mod address;
+mod bytes;
+mod corpus;
+mod lent;
+mod names;
+mod numbers;
+mod percent;
+mod probe;
+mod tally;
+mod text;
+
+use corpus::Rng;
+use tally::Tally;
+
+/// The Rust that is ported reads a text, so later runs can ask it.
+#[cfg(original)]
+fn original(t: &mut Tally) {
+    t.same("config.rs", &"host=a", Some(vec!["a".to_string()]), original::hosts("host=a"));
+}
+
+#[cfg(not(original))]
+fn original(_: &mut Tally) {}
+
+fn main() {
+    let args: Vec<String> = std::env::args().collect();
+    let large = match args.get(1).map(String::as_str) {
+        Some("small") => false,
+        Some("large") => true,
+        _ => panic!("usage: beside small|large SEED"),
+    };
+    let seed = args.get(2).and_then(|s| s.parse().ok()).expect("a seed");
+    let (t, rng) = (&mut Tally::new(), &mut Rng(seed));
+    t.leaf("byte", |t| bytes::run(t, large, rng));
+    t.leaf("space", text::spaces);
+    t.leaf("utf8", |t| text::utf8(t, large, rng));
+    t.leaf("percent", |t| percent::run(t, large, rng));
+    t.leaf("number", |t| numbers::read(t, large, rng));
+    t.leaf("decimal", |t| numbers::write(t, large, rng));
+    t.leaf("address", |t| address::run(t, large, rng));
+    t.leaf("names", |t| names::run(t, large, rng));
+    t.leaf("original", original);
+    println!("differential: {} compared, {} differ", t.compared, t.differ);
+    std::process::exit((t.differ != 0) as i32);
+}

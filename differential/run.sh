@@ -1,0 +1,137 @@
+#!/usr/bin/env bash
+# The runs beside Rust: builds one x86-64 program out of the proved archive of crate probe and Rust's own library, and runs it.
+#   differential/run.sh small   what `make test` runs: where the tools can't be had it says so, and succeeds
+#   differential/run.sh large   what `make differential` runs: there the same is a failure
+#   SEED=n          another seed for what is chosen freely (default 1)
+#   DOCS_SRC=dir    where the Rust that is ported lies (default: ../shared/docs/src beside the repository)
+#   RUSTC=command   another Rust compiler
+# The last line is 'differential: N compared, D differ', and the exit status is 0 only where D is 0. On aarch64 the program is
+# cross-built and run by qemu-user. What is missing is installed by Debian's packages.
+set -euo pipefail
+cd "$(dirname "$0")/.."
+size=${1:-}
+seed=${SEED:-1}
+config=${DOCS_SRC:-../shared/docs/src}/src/api/client/config.rs
+config_sum=79bdf1f6bfabaf5bbb9aea67c7d7a4101d8bed03f2ab6d5ddb01aa50a1a9feca # pgwire 0.41.0
+target=x86_64-unknown-linux-gnu
+build=differential/build
+
+case $size in
+small | large) ;;
+*) echo "usage: differential/run.sh small|large" >&2 && exit 2 ;;
+esac
+
+# The tools or the Rust can't be had: the small run is left out, the large one fails.
+cannot() {
+    if [ "$size" = small ]; then
+        echo "differential: skipped ($1)"
+        exit 0
+    fi
+    echo "differential: cannot run ($1)" >&2
+    exit 2
+}
+
+fail() {
+    [ -z "${2:-}" ] || tail -n 20 "$2" >&2
+    echo "differential: $1" >&2
+    exit 1
+}
+
+# A compiler that has the standard library for x86-64, Debian's among those that are tried.
+find_rustc() {
+    local command lib
+    for command in ${RUSTC:-rustc /usr/bin/rustc}; do
+        lib=$("$command" --print target-libdir --target $target 2>/dev/null) || continue
+        compgen -G "$lib/libstd-*.rlib" >/dev/null && echo "$command" && return
+    done
+    return 1
+}
+
+find_percent() {
+    local files
+    files=$(dpkg -L librust-percent-encoding-dev 2>/dev/null) || return 1
+    grep '/percent-encoding-2[^/]*/src/lib\.rs$' <<<"$files"
+}
+
+case $(uname -m) in
+x86_64)
+    linker=${CC:-gcc} linker_packages='gcc libc6-dev' rust_packages='rustc' run=()
+    ;;
+aarch64)
+    # no -L for qemu: the C library comes with libstd-rust-dev:amd64, and a mix of two of them dies
+    linker=x86_64-linux-gnu-gcc linker_packages='gcc-x86-64-linux-gnu libc6-dev-amd64-cross'
+    rust_packages='rustc libstd-rust-dev:amd64' run=(qemu-x86_64)
+    ;;
+*) cannot "no way is known to run an x86-64 program on $(uname -m)" ;;
+esac
+
+missing() {
+    find_rustc >/dev/null || echo "$rust_packages"
+    find_percent >/dev/null || echo librust-percent-encoding-dev
+    command -v "$linker" >/dev/null || echo "$linker_packages"
+    [ ${#run[@]} = 0 ] || command -v "${run[0]}" >/dev/null || echo qemu-user
+}
+
+install_missing() {
+    local packages as_root=()
+    packages=$(missing | tr '\n' ' ')
+    [ -n "$packages" ] || return 0
+    command -v apt-get >/dev/null || cannot "missing: ${packages% }, and there is no apt-get"
+    if [ "$(id -u)" != 0 ]; then
+        sudo -n true 2>/dev/null || cannot "missing, and only root can install: ${packages% }"
+        as_root=(sudo -n)
+    fi
+    echo "differential: installing ${packages% }"
+    {
+        [[ $packages != *:amd64* ]] || "${as_root[@]}" dpkg --add-architecture amd64
+        "${as_root[@]}" apt-get -o Acquire::Retries=1 -o Acquire::http::Timeout=30 update -qq
+        # shellcheck disable=SC2086
+        "${as_root[@]}" env DEBIAN_FRONTEND=noninteractive apt-get install -y -qq --no-install-recommends $packages
+    } >"$build/install.log" 2>&1 || cannot "apt-get could not install ${packages% }"
+    [ -z "$(missing)" ] || cannot "still missing after apt-get: $(missing | tr '\n' ' ')"
+}
+
+# rt ci removes target/, so the archive is kept here, for as long as no crate and no kit changes.
+build_archive() {
+    local sum
+    sum=$({
+        rt version
+        cat crates.txt
+        find crates -type f \( -name '*.rt' -o -name '*.antt' \) -print0 | LC_ALL=C sort -z | xargs -0 sha256sum
+    } | sha256sum)
+    [ ! -e "$build/libprobe.a" ] || [ "$sum" != "$(cat "$build/libprobe.sum" 2>/dev/null)" ] || return 0
+    rt staticlib probe >"$build/staticlib.log" 2>&1 || fail 'crate probe is not proved' "$build/staticlib.log"
+    cp target/staticlib/libprobe.a "$build/libprobe.a"
+    echo "$sum" >"$build/libprobe.sum"
+}
+
+rust() {
+    "$rustc" --edition 2021 -O --target $target -C linker="$linker" --out-dir "$build" -L "$build" "$@" \
+        >"$build/rustc.log" 2>&1 || fail 'the Rust side does not compile' "$build/rustc.log"
+}
+
+# The Rust that is ported, byte for byte.
+build_original() {
+    if [ ! -e "$config" ]; then
+        [ "$size" = small ] || cannot "no $config: set DOCS_SRC"
+        echo "differential: the Rust that is ported is left out (no $config: set DOCS_SRC)"
+        return 0
+    fi
+    echo "$config_sum  $config" | sha256sum --check --status || fail "$config is not the one of pgwire 0.41.0"
+    mkdir -p "$build/original/api/client"
+    cp differential/original/lib.rs "$build/original/lib.rs"
+    cp "$config" "$build/original/api/client/config.rs"
+    rust --crate-type rlib --crate-name original --extern percent_encoding --cap-lints allow "$build/original/lib.rs"
+    with_original=(--cfg original --extern original)
+}
+
+command -v rt >/dev/null || cannot 'no rt: the Rattle kit is missing'
+mkdir -p "$build"
+install_missing
+rustc=$(find_rustc)
+with_original=()
+build_archive
+rust --crate-type rlib --crate-name percent_encoding --cap-lints allow --cfg 'feature="alloc"' --cfg 'feature="std"' "$(find_percent)"
+build_original
+rust --crate-name beside --extern percent_encoding "${with_original[@]}" -L native="$build" -l static=probe differential/beside/main.rs
+"${run[@]}" "$build/beside" "$size" "$seed"
