@@ -20,6 +20,14 @@ fn writes(t: &mut Tally, x: &[u8]) {
     }
 }
 
+fn put(t: &mut Tally, b: u8) {
+    for (len, at) in rooms(1) {
+        let (mut rust, mut ours) = (Lent::of(len), Lent::of(len));
+        let answers = (rust.written(at, &[b]), probe::put(ours.part(), at, b));
+        t.same("put", &(b, len, at), (answers.0, rust), (answers.1, ours));
+    }
+}
+
 pub fn run(t: &mut Tally, large: bool, rng: &mut Rng) {
     let most = if large { 4 } else { 3 };
     texts(b"ab", most, &mut |w| {
@@ -29,6 +37,9 @@ pub fn run(t: &mut Tally, large: bool, rng: &mut Rng) {
             }
         })
     });
+    for b in 0..=255 {
+        put(t, b);
+    }
     for _ in 0..if large { 20_000 } else { 2_000 } {
         let s = any_of(rng, &[b"\0", b"a", b"b", b"\xff", b"port"], 40);
         writes(t, &s);

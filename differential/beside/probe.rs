@@ -44,6 +44,7 @@ mod c {
     use super::*;
     extern "C" {
         pub fn probe_stands_at(w: *const u8, wn: usize, at: usize, s: *const u8, sn: usize) -> bool;
+        pub fn probe_put(dst: *mut u8, dn: usize, at: usize, b: u8) -> usize;
         pub fn probe_copy(src: *const u8, sn: usize, dst: *mut u8, dn: usize, at: usize) -> usize;
         pub fn probe_clear(dst: *mut u8, dn: usize, at: usize, n: usize) -> usize;
         pub fn probe_space(code: u32) -> bool;
@@ -75,6 +76,10 @@ mod c {
 
 pub fn stands_at(w: &[u8], at: usize, s: &[u8]) -> bool {
     unsafe { c::probe_stands_at(w.as_ptr(), w.len(), at, s.as_ptr(), s.len()) }
+}
+
+pub fn put(dst: &mut [u8], at: usize, b: u8) -> usize {
+    unsafe { c::probe_put(dst.as_mut_ptr(), dst.len(), at, b) }
 }
 
 pub fn copy(src: &[u8], dst: &mut [u8], at: usize) -> usize {

@@ -2,6 +2,7 @@
 // an answer that C has no form for as a plain record of numbers.
 ghost use mathlib.Core.Path.{_≡_};
 ghost use Prim.Native.Nat.{_-_, _^_};
+ghost use mathlib.Core.List.{[], _∷_};
 ghost use mathlib.Core.Bool.{true, false};
 ghost use lib.ListN.{length, drop, getD, replicate};
 ghost use Rattle.byte.specs.Same.{standsAt};
@@ -68,6 +69,14 @@ pub extern "C" fn probe_stands_at(w: &[u8], at: usize, s: &[u8]) -> bool
     ensures { λ r. ⌜ r ≡ standsAt (now (w .entry)) at (now (s .entry)) ⌝ }
 {
     byte::stands_at(w, at, s)
+}
+
+#[no_mangle]
+pub extern "C" fn probe_put(dst: &mut [u8], at: usize, b: u8) -> usize
+    ensures { λ r. ⌜ r ≡ after (now (dst .entry)) at (b ∷ []) ⌝ }
+    ensures { λ _. ⌜ now (dst .exit) ≡ written (now (dst .entry)) at (b ∷ []) ⌝ }
+{
+    byte::put(dst, at, b)
 }
 
 #[no_mangle]
