@@ -1,0 +1,5 @@
+pub mod Turns
+pub mod Pieces
+pub mod PortTurns
+pub mod AddressTurns
+pub mod HostTurns

@@ -1,0 +1,3 @@
+pub mod Fault
+pub mod Append
+pub mod Lists
