@@ -72,9 +72,11 @@ loop-again c =
     let p = c .before in
     let r = p .before in
     let t = r .before .before in
-    let l = t .before in
-    (omega (arith, t .loop-test .taken), c .find2 .ensures,
-    reading-more _ _ _ _ _ (l .loop .inv .1) (l .loop .inv .2) (t .loop-test .taken) _ (r .read-group .ensures) _ (p .push .ensures))
+    let l = t .before in (
+      omega (arith, t .loop-test .taken),
+      c .find2 .ensures,
+      reading-more _ _ _ _ _ (l .loop .inv .1) (l .loop .inv .2) (t .loop-test .taken) _ (r .read-group .ensures) _ (p .push .ensures),
+    )
 
 -- src/lib.rt:190:18
 sub-push-last : tie.Need-sub-push-last Inv-loop μ-loop

@@ -111,10 +111,12 @@ loop-less c = omega arith
 loop-again : tie.Need-loop-again Inv-loop μ-loop
 loop-again c =
     let w = c .before .before .before in
-    let l = here w in
-    (omega (arith, w .before .before .before .if1 .left), omega arith,
-    part-room (l .loop .left) (l .loop .v) (piece w) _ (found w .before .loop-test .taken) (l .loop .inv .1) (l .loop .inv .2) (read w _ (c .before .four .given .1)),
-    turned w _ (c .before .four .given .1))
+    let l = here w in (
+      omega (arith, w .before .before .before .if1 .left),
+      omega arith,
+      part-room (l .loop .left) (l .loop .v) (piece w) _ (found w .before .loop-test .taken) (l .loop .inv .1) (l .loop .inv .2) (read w _ (c .before .four .given .1)),
+      turned w _ (c .before .four .given .1),
+    )
 
 -- src/lib.rt:106:28
 sub-read-part-2 : tie.Need-sub-read-part-2 Inv-loop μ-loop
