@@ -16,9 +16,10 @@ use Rattle.split.specs.Split.{firstAt, split}
 use Rattle.split.proofs.Split.{split-first, split-more, split-last}
 use Rattle.address.specs.declared.Group.{Group}
 use Rattle.address.specs.declared.Groups.{Groups}
-use Rattle.address.specs.declared.Four.{Four}
+use Rattle.ipv4.specs.declared.Four.{Four}
+use Rattle.ipv4.specs.V4.{v4Of}
 use Rattle.address.specs.declared.AddressRead.{AddressRead}
-use Rattle.address.specs.Address.{v4Of, groupOf, before, alone, lastOf, groupsOf, quad, v6, whole, around}
+use Rattle.address.specs.Address.{groupOf, before, alone, lastOf, groupsOf, quad, v6, whole, around}
 use Rattle.address.specs.Steps.{packed, refused, pushed, pushedAll, pushedSome, pushedLast, groupAt, quadAt, sixOf, wholeAt, aroundAt}
 
 -- groups and then a group, groups and then groups

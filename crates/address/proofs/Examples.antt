@@ -3,22 +3,18 @@
 use mathlib.Core.Path.{_≡_, refl}
 use mathlib.Core.List.{List, [], _∷_, map}
 use Prim.Native.Nat.{ℕ}
-use Prim.Native.Char.{Char, code}
 use Prim.Native.String.{String}
 use Rattle.byte.specs.Byte.{between}
 use Rattle.byte.specs.Digit.{digitOf}
 use Rattle.byte.specs.Same.{same}
+use Rattle.number.proofs.Ascii.{bytes}
 use Rattle.number.specs.Digits.{allDigits, valueFrom, valueIn}
 use Rattle.number.specs.Number.{digitsIn}
 use Rattle.split.specs.Split.{split}
+use Rattle.ipv4.specs.V4.{partOf, partsOf, v4Of}
 use Rattle.address.specs.declared.Kind.{Kind}
 use Rattle.address.specs.declared.AddressRead.{AddressRead}
-use Rattle.address.specs.Address.{partOf, partsOf, v4Of, groupOf, groupsOf, sideOf, gapAt, quad, v6Of, addressOf}
-
--- the bytes of a text in ASCII
-abbrev bytes : String → List ℕ
-bytes String.[] = []
-bytes (String._∷_ c s) = code c ∷ bytes s
+use Rattle.address.specs.Address.{groupOf, groupsOf, sideOf, gapAt, quad, v6Of, addressOf}
 
 abbrev four : ℕ → AddressRead
 four v = AddressRead.Is (record { kind = Kind.V4 v })

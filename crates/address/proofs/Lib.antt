@@ -1,4 +1,3 @@
-pub mod V4
 pub mod Gap
 pub mod Eight
 pub mod Examples

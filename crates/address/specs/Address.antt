@@ -1,4 +1,4 @@
--- Addresses in text: IPv4 as document 01 says, IPv6 as RFC 4291, section 2.2.
+-- Addresses in text: IPv6 as RFC 4291, section 2.2, says, or IPv4.
 -- Assumes nothing.
 use Prim.Native.Nat.{ℕ, suc, _+_, _-_, _*_, _^_, _/_, _%_}
 use mathlib.Core.Bool.{Bool, true, false, _&&_}
@@ -11,52 +11,18 @@ use Rattle.byte.specs.Same.{same}
 use Rattle.number.specs.declared.Number.{Number}
 use Rattle.number.specs.Number.{digitsIn}
 use Rattle.split.specs.Split.{split}
-use Rattle.address.specs.declared.Part.{Part}
+use Rattle.ipv4.specs.declared.Four.{Four}
+use Rattle.ipv4.specs.V4.{v4Of}
 use Rattle.address.specs.declared.Group.{Group}
-use Rattle.address.specs.declared.Four.{Four}
 use Rattle.address.specs.declared.Kind.{Kind}
 use Rattle.address.specs.declared.Address.{Address}
 use Rattle.address.specs.declared.AddressRead.{AddressRead}
 
--- what was read within a range, as a part and as a group
-abbrev pub asPart : Number → Part
-asPart (Number.Is n) = Part.Is n
-asPart Number.Form = Part.Not
-asPart Number.Range = Part.Not
-
+-- what was read within a range, as a group
 abbrev pub asGroup : Number → Group
 asGroup (Number.Is n) = Group.Is n
 asGroup Number.Form = Group.Not
 asGroup Number.Range = Group.Not
-
--- a `0` (byte 48) with more behind it
-abbrev pub zeroLed : List ℕ → Bool
-zeroLed p = eqb (getD p 0 0) 48 && ltb 1 (length p)
-
--- "decimal parts 0 to 255, no leading zero unless the part is `0`"
-unfoldable pub partOf : List ℕ → Part
-partOf p = pick (zeroLed p) Part.Not (asPart (digitsIn 10 255 p))
-
--- "value a·2^24 + b·2^16 + c·2^8 + d"
-abbrev pub fourOf : Part → Part → Part → Part → Four
-fourOf (Part.Is a) (Part.Is b) (Part.Is c) (Part.Is d) = Four.Is (a * 2 ^ 24 + b * 2 ^ 16 + c * 2 ^ 8 + d)
-fourOf (Part.Is a) (Part.Is b) (Part.Is c) Part.Not = Four.Not
-fourOf (Part.Is a) (Part.Is b) Part.Not d = Four.Not
-fourOf (Part.Is a) Part.Not c d = Four.Not
-fourOf Part.Not b c d = Four.Not
-
--- "four" of them
-unfoldable pub partsOf : List (List ℕ) → Four
-partsOf [] = Four.Not
-partsOf (a ∷ []) = Four.Not
-partsOf (a ∷ b ∷ []) = Four.Not
-partsOf (a ∷ b ∷ c ∷ []) = Four.Not
-partsOf (a ∷ b ∷ c ∷ d ∷ []) = fourOf (partOf a) (partOf b) (partOf c) (partOf d)
-partsOf (a ∷ b ∷ c ∷ d ∷ e ∷ ps) = Four.Not
-
--- an IPv4 address: parts with a `.` (byte 46) between each two
-unfoldable pub v4Of : List ℕ → Four
-v4Of s = partsOf (split 46 s)
 
 -- RFC 4291: "one to four hexadecimal digits", of either case
 unfoldable pub groupOf : List ℕ → Group

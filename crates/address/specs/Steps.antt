@@ -1,4 +1,4 @@
--- What the code holds on its way: a number with one part more, and groups in an array of eight.
+-- What the code holds on its way: groups in an array of eight.
 -- Assumes nothing.
 use Prim.Native.Nat.{ℕ, _+_, _-_, _*_, _^_}
 use mathlib.Core.Bool.{Bool, true, false, _&&_}
@@ -7,18 +7,11 @@ use mathlib.Core.Option.{Option, none, some}
 use lib.Dec.{eqb, leb, ltb}
 use lib.ListN.{length, getD, set, replicate}
 use Rattle.byte.specs.Byte.{pick}
-use Rattle.address.specs.declared.Part.{Part}
 use Rattle.address.specs.declared.Group.{Group}
-use Rattle.address.specs.declared.Four.{Four}
 use Rattle.address.specs.declared.Groups.{Groups}
 use Rattle.address.specs.declared.Kind.{Kind}
 use Rattle.address.specs.declared.AddressRead.{AddressRead}
 use Rattle.address.specs.Address.{lastOf}
-
--- a part behind the number v of those before it
-abbrev pub withPart : ℕ → Part → Four
-withPart v (Part.Is p) = Four.Is (v * 256 + p)
-withPart v Part.Not = Four.Not
 
 abbrev pub refused : Groups
 refused = record { ok = false; n = 0; at = replicate 8 0 }

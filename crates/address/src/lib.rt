@@ -2,10 +2,10 @@
 ghost use mathlib.Core.Path.{_≡_};
 ghost use mathlib.Core.Option.{none, some};
 ghost use mathlib.Core.List.{[]};
-ghost use Prim.Native.Nat.{_+_, _^_, _<_, _≤_};
+ghost use Prim.Native.Nat.{_<_, _≤_};
 ghost use Rattle.split.specs.Split.{split};
-ghost use Rattle.address.specs.Address.{zeroLed, partOf, v4Of, groupOf, groupsOf, sideOf, gapAt, v6Of, addressOf};
-ghost use Rattle.address.specs.Steps.{withPart, packed, pushed, pushedLast, groupAt, quadAt, wholeAt, aroundAt};
+ghost use Rattle.address.specs.Address.{groupOf, groupsOf, sideOf, gapAt, v6Of, addressOf};
+ghost use Rattle.address.specs.Steps.{packed, pushed, pushedLast, groupAt, quadAt, wholeAt, aroundAt};
 
 pub enum Kind {
     V4(u32),
@@ -22,21 +22,9 @@ pub enum AddressRead {
     Not,
 }
 
-// A decimal part of an IPv4 address.
-pub enum Part {
-    Is(u8),
-    Not,
-}
-
 // A group of an IPv6 address.
 pub enum Group {
     Is(u16),
-    Not,
-}
-
-// An IPv4 address, as one number.
-pub enum Four {
-    Is(u32),
     Not,
 }
 
@@ -45,63 +33,6 @@ pub struct Groups {
     pub ok: bool,
     pub n: usize,
     pub at: [u16; 8],
-}
-
-fn is_zero_led(s: &[u8]) -> bool
-    ensures { λ r. ⌜ r ≡ zeroLed (now (s .entry)) ⌝ }
-{
-    if byte::at(s, 0) != b'0' {
-        return false;
-    }
-    1 < s.len()
-}
-
-// 0 to 255, no leading zero unless the part is `0`.
-fn read_part(s: &[u8]) -> Part
-    ensures { λ r. ⌜ r ≡ partOf (now (s .entry)) ⌝ }
-{
-    if is_zero_led(s) {
-        return Part::Not;
-    }
-    match number::read_digits(s, number::Radix::Ten, 255) {
-        number::Number::Is(n) => Part::Is(n as u8),
-        number::Number::Form => Part::Not,
-        number::Number::Range => Part::Not,
-    }
-}
-
-// The number of the parts so far, with one more.
-fn with_part(v: u32, part: Part) -> Four
-    requires { ⌜ v < 2 ^ 24 ⌝ }
-    ensures { λ r. ⌜ r ≡ withPart v part ⌝ }
-{
-    match part {
-        Part::Is(p) => Four::Is(v * 256 + p as u32),
-        Part::Not => Four::Not,
-    }
-}
-
-// Four parts with a dot between each two: three that end at a dot, and the last.
-fn read_v4(s: &[u8]) -> Four
-    ensures { λ r. ⌜ r ≡ v4Of (now (s .entry)) ⌝ }
-{
-    let mut v: u32 = 0;
-    let mut left: usize = 3;
-    let mut i: usize = 0;
-    while 0 < left {
-        let e = split::find(s, i, b'.');
-        if s.len() <= e {
-            return Four::Not;
-        }
-        let four = with_part(v, read_part(&s[i..e]));
-        let Four::Is(next) = four else {
-            return Four::Not;
-        };
-        v = next;
-        left -= 1;
-        i = e + 1;
-    }
-    with_part(v, read_part(&s[i..]))
 }
 
 // One to four hex digits.
@@ -165,13 +96,13 @@ fn push_last(g: Groups, p: &[u8], tail: bool) -> Groups
     if !tail {
         return push(g, read_group(p));
     }
-    let four = read_v4(p);
+    let four = ipv4::read_v4(p);
     match four {
-        Four::Is(v) => push(
+        ipv4::Four::Is(v) => push(
             push(g, Group::Is((v / 65536) as u16)),
             Group::Is((v % 65536) as u16),
         ),
-        Four::Not => push(g, read_group(p)),
+        ipv4::Four::Not => push(g, read_group(p)),
     }
 }
 
@@ -290,12 +221,12 @@ fn read_v6(s: &[u8]) -> AddressRead
 pub fn read_address(s: &[u8]) -> AddressRead
     ensures { λ r. ⌜ r ≡ addressOf (now (s .entry)) ⌝ }
 {
-    let four = read_v4(s);
+    let four = ipv4::read_v4(s);
     match four {
-        Four::Is(v) => {
+        ipv4::Four::Is(v) => {
             let kind = Kind::V4(v);
             AddressRead::Is(Address { kind: kind })
         }
-        Four::Not => read_v6(s),
+        ipv4::Four::Not => read_v6(s),
     }
 }

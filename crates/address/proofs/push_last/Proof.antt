@@ -12,7 +12,7 @@ use Rattle.address.proofs.push_last.Reads as reads
 use Rattle.address.proofs.push_last.Lts as lts
 use Rattle.address.proofs.push.Reads as push-reads
 use Rattle.address.proofs.read_group.Reads as read-group-reads
-use Rattle.address.proofs.read_v4.Reads as read-v4-reads
+use Rattle.ipv4.proofs.read_v4.Reads as read-v4-reads
 
 -- src/lib.rt:166:24
 read-group-requires : tie.Need-read-group-requires

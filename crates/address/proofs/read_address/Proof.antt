@@ -5,7 +5,7 @@ use Rattle.address.proofs.read_address.Statement.{statement}
 use Rattle.address.proofs.read_address.Tie as tie
 use Rattle.address.proofs.read_address.Reads as reads
 use Rattle.address.proofs.read_address.Lts as lts
-use Rattle.address.proofs.read_v4.Reads as read-v4-reads
+use Rattle.ipv4.proofs.read_v4.Reads as read-v4-reads
 use Rattle.address.proofs.read_v6.Reads as read-v6-reads
 
 -- src/lib.rt:293:9

@@ -18,10 +18,9 @@ use Rattle.number.proofs.Digits.{all-digits-cons}
 use Rattle.number.proofs.Laws.{digits-form, digits-told}
 use Rattle.split.specs.Split.{firstAt, split}
 use Rattle.split.proofs.Split.{Free, free-nil, free-cons, split-more, split-last, split-free, split-first, behind, first-most}
-use Rattle.address.specs.declared.Part.{Part}
-use Rattle.address.specs.declared.Four.{Four}
-use Rattle.address.specs.Address.{asPart, zeroLed, partOf, fourOf, partsOf, v4Of}
-use Rattle.address.specs.Steps.{withPart}
+use Rattle.ipv4.specs.declared.Part.{Part}
+use Rattle.ipv4.specs.declared.Four.{Four}
+use Rattle.ipv4.specs.V4.{asPart, zeroLed, partOf, fourOf, partsOf, v4Of, withPart}
 
 -- digits hold no byte that is no digit
 pub digits-free : (base b : ℕ) → base ≤ digitOf b → (s : List ℕ) → allDigits base s ≡ true → Free b s

@@ -1,13 +1,13 @@
 use mathlib.Core.Path.{_≡_, refl, sym, ap, _∙_}
 use native.Mathlib.Omega.{arith}
 use Rattle.number.proofs.Laws.{digits-told}
-use Rattle.address.specs.Address.{partOf}
+use Rattle.ipv4.specs.V4.{partOf}
 use borrow.Author.Needs.{needs}
-use Rattle.address.proofs.read_part.Statement.{statement}
-use Rattle.address.proofs.read_part.Tie as tie
-use Rattle.address.proofs.read_part.Reads as reads
-use Rattle.address.proofs.read_part.Lts as lts
-use Rattle.address.proofs.is_zero_led.Reads as is-zero-led-reads
+use Rattle.ipv4.proofs.read_part.Statement.{statement}
+use Rattle.ipv4.proofs.read_part.Tie as tie
+use Rattle.ipv4.proofs.read_part.Reads as reads
+use Rattle.ipv4.proofs.read_part.Lts as lts
+use Rattle.ipv4.proofs.is_zero_led.Reads as is-zero-led-reads
 use Rattle.number.proofs.read_digits.Reads as read-digits-reads
 
 -- src/lib.rt:65:8

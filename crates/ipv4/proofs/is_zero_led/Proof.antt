@@ -1,9 +1,9 @@
 use borrow.Author.Tests.{eq-eqb, ne-eqb}
 use borrow.Author.Needs.{needs}
-use Rattle.address.proofs.is_zero_led.Statement.{statement}
-use Rattle.address.proofs.is_zero_led.Tie as tie
-use Rattle.address.proofs.is_zero_led.Reads as reads
-use Rattle.address.proofs.is_zero_led.Lts as lts
+use Rattle.ipv4.proofs.is_zero_led.Statement.{statement}
+use Rattle.ipv4.proofs.is_zero_led.Tie as tie
+use Rattle.ipv4.proofs.is_zero_led.Reads as reads
+use Rattle.ipv4.proofs.is_zero_led.Lts as lts
 use Rattle.byte.proofs.at.Reads as at-reads
 
 -- src/lib.rt:55:8

@@ -1,9 +1,9 @@
 use mathlib.Core.Path.{_≡_, refl, sym, ap, _∙_}
 use borrow.Author.Needs.{needs}
-use Rattle.address.proofs.with_part.Statement.{statement}
-use Rattle.address.proofs.with_part.Tie as tie
-use Rattle.address.proofs.with_part.Reads as reads
-use Rattle.address.proofs.with_part.Lts as lts
+use Rattle.ipv4.proofs.with_part.Statement.{statement}
+use Rattle.ipv4.proofs.with_part.Tie as tie
+use Rattle.ipv4.proofs.with_part.Reads as reads
+use Rattle.ipv4.proofs.with_part.Lts as lts
 
 -- src/lib.rt:81:18
 enum-known-part : tie.Need-enum-known-part

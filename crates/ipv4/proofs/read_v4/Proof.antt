@@ -8,16 +8,15 @@ use borrow.Author.Needs.{needs}
 use lib.ListN.{length, drop, take}
 use Rattle.split.specs.Split.{split}
 use Rattle.split.proofs.Split.{first-within}
-use Rattle.address.specs.declared.Four.{Four}
-use Rattle.address.specs.Address.{v4Of, partOf}
-use Rattle.address.specs.Steps.{withPart}
-use Rattle.address.proofs.V4.{partsFrom, v4-start, parts-more, parts-short, parts-last, parts-refused, roof, roof-most, part-room}
-use Rattle.address.proofs.read_v4.Statement.{statement}
-use Rattle.address.proofs.read_v4.Tie as tie
-use Rattle.address.proofs.read_v4.Reads as reads
-use Rattle.address.proofs.read_v4.Lts as lts
-use Rattle.address.proofs.read_part.Reads as read-part-reads
-use Rattle.address.proofs.with_part.Reads as with-part-reads
+use Rattle.ipv4.specs.declared.Four.{Four}
+use Rattle.ipv4.specs.V4.{v4Of, partOf, withPart}
+use Rattle.ipv4.proofs.V4.{partsFrom, v4-start, parts-more, parts-short, parts-last, parts-refused, roof, roof-most, part-room}
+use Rattle.ipv4.proofs.read_v4.Statement.{statement}
+use Rattle.ipv4.proofs.read_v4.Tie as tie
+use Rattle.ipv4.proofs.read_v4.Reads as reads
+use Rattle.ipv4.proofs.read_v4.Lts as lts
+use Rattle.ipv4.proofs.read_part.Reads as read-part-reads
+use Rattle.ipv4.proofs.with_part.Reads as with-part-reads
 use Rattle.split.proofs.find.Reads as find-reads
 
 abbrev Inv-loop : tie.InvT-loop
