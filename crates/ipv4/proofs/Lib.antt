@@ -1,1 +1,2 @@
 pub mod V4
+pub mod Form
