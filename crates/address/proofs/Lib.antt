@@ -1,3 +1,4 @@
 pub mod Gap
 pub mod Eight
+pub mod Form
 pub mod Examples

@@ -1,2 +1,3 @@
 pub mod Address
 pub mod Steps
+pub mod Form

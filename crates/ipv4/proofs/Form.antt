@@ -4,9 +4,10 @@ use Prim.Native.Nat.{ℕ, suc, _+_, _*_, _^_, _<_, _≤_}
 use mathlib.Core.Path.{_≡_, refl, sym, ap, _∙_}
 use mathlib.Core.Bool.{Bool, true, false, _&&_}
 use mathlib.Core.List.{List, [], _∷_, _++_}
+use mathlib.Core.Logic.{_↔_}
 use native.Mathlib.Omega.{arith}
 use lib.Dec.{ltb, eqb, lit≤}
-use lib.ListN.{length, getD}
+use lib.ListN.{length, getD, length-append}
 use borrow.Author.Tests.{ltb-false, eq-eqb, ne-eqb, eqb-true, eqb-false, le-ltb}
 use Rattle.byte.specs.Byte.{pick, between}
 use Rattle.byte.specs.Digit.{digitOf}
@@ -16,7 +17,7 @@ use Rattle.number.specs.Digits.{allDigits, valueIn}
 use Rattle.number.specs.Number.{digitsIn}
 use Rattle.number.proofs.Laws.{digits-is, digits-told, Told}
 use Rattle.split.specs.Split.{split, join}
-use Rattle.split.proofs.Split.{Free, AllFree, free-one, free-more, join-split, split-join}
+use Rattle.split.proofs.Split.{Free, free-cons, free-append, AllFree, free-one, free-more, join-split, split-join}
 use Rattle.ipv4.specs.declared.Part.{Part}
 use Rattle.ipv4.specs.declared.Four.{Four}
 use Rattle.ipv4.specs.V4.{asPart, zeroLed, partOf, fourOf, partsOf, v4Of}
@@ -85,3 +86,21 @@ v4-complete s v k =
     let free : AllFree 46 (k .p ∷ k .q ∷ k .r ∷ k .t ∷ []) =
         free-more (part-free 46 dot-no-digit (k .first)) (free-more (part-free 46 dot-no-digit (k .second)) (free-more (part-free 46 dot-no-digit (k .third)) (free-one (part-free 46 dot-no-digit (k .fourth))))) in
     rw (k .text, split-join 46 free, part-complete _ _ (k .first), part-complete _ _ (k .second), part-complete _ _ (k .third), part-complete _ _ (k .fourth), k .means)
+
+pub v4-exactly : (s : List ℕ) (v : ℕ) → (v4Of s ≡ Four.Is v) ↔ V4Text s v
+v4-exactly s v = (v4-sound s v, v4-complete s v)
+
+-- neither a byte that is no digit nor a dot stands in it, and it is not empty
+pub v4-free : (b : ℕ) → 10 ≤ digitOf b → (b ≡ 46 → ⊥) → (s : List ℕ) (v : ℕ) → V4Text s v → Free b s
+unfolding join
+v4-free b h n s v k =
+    let dot : (t : List ℕ) → Free b t → Free b (46 ∷ t) = λ t f. free-cons b 46 t (λ e. n (sym e)) f in
+    rw (k .text)
+    (free-append b (k .p) _ (part-free b h (k .first))
+    (dot _ (free-append b (k .q) _ (part-free b h (k .second))
+    (dot _ (free-append b (k .r) _ (part-free b h (k .third))
+    (dot _ (part-free b h (k .fourth))))))))
+
+pub v4-some : (s : List ℕ) (v : ℕ) → V4Text s v → 0 < length s
+unfolding join
+v4-some s v k = rw (k .text) (omega (arith, k .first .some, length-append (k .p) (46 ∷ join 46 (k .q ∷ k .r ∷ k .t ∷ []))))

@@ -132,6 +132,11 @@ parts-last s f = by (ltb (firstAt 46 s) (length s)) refl
         let h : firstAt 46 s ≡ length s = omega (arith, ltb-false (firstAt 46 s) (length s) e, first-most 46 s) in
         rw (split-free 46 s (record { none = h }))
 
+-- a text with no dot is no address
+pub v4-undotted : (s : List ℕ) → Free 46 s → v4Of s ≡ Four.Not
+unfolding v4Of partsOf
+v4-undotted s f = rw (split-free 46 s f)
+
 -- What the number of the parts so far stays below, with k parts to come behind the next.
 abbrev pub roof : ℕ → ℕ
 roof zero = 2 ^ 24

@@ -93,6 +93,18 @@ module _ (b : ℕ) where
       by true e h = let z : 0 ≡ suc (length p) = h in omega arith
       by false e h = let z : suc (firstAt b p) ≡ suc (length p) = h in omega arith
 
+  pub free-append : (p q : List ℕ) → Free p → Free q → Free (p ++ q)
+  free-append [] q f g = g
+  free-append (a ∷ p) q f g = free-cons a (p ++ q) (free-head a p f) (free-append p q (free-tail a p f) g)
+
+  pub join-one : (p : List ℕ) → join b (p ∷ []) ≡ p
+  unfolding join
+  join-one p = refl
+
+  pub join-more : (p q : List ℕ) (ps : List (List ℕ)) → join b (p ∷ q ∷ ps) ≡ p ++ b ∷ join b (q ∷ ps)
+  unfolding join
+  join-more p q ps = refl
+
   -- joining the pieces of a text gives the text
   pub join-onto : (a : ℕ) (ps : List (List ℕ)) → join b (onto a ps) ≡ a ∷ join b ps
   unfolding join
