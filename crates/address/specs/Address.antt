@@ -1,7 +1,7 @@
 -- Addresses in text: IPv6 as RFC 4291, section 2.2, says, or IPv4.
 -- Assumes nothing.
 use Prim.Native.Nat.{ℕ, suc, _+_, _-_, _*_, _^_, _/_, _%_}
-use mathlib.Core.Bool.{Bool, true, false, _&&_}
+use mathlib.Core.Bool.{Bool, true, false}
 use mathlib.Core.List.{List, [], _∷_, _++_}
 use mathlib.Core.Option.{Option, none, some}
 use lib.Dec.{eqb, leb, ltb}
@@ -15,7 +15,6 @@ use Rattle.ipv4.specs.declared.Four.{Four}
 use Rattle.ipv4.specs.V4.{v4Of}
 use Rattle.address.specs.declared.Group.{Group}
 use Rattle.address.specs.declared.Kind.{Kind}
-use Rattle.address.specs.declared.Address.{Address}
 use Rattle.address.specs.declared.AddressRead.{AddressRead}
 
 -- what was read within a range, as a group

@@ -1,19 +1,18 @@
 -- A text is read as an IPv4 address exactly when it has the form of one, and then as what that stands for.
 -- Assumes nothing.
-use Prim.Native.Nat.{ℕ, suc, _+_, _*_, _^_, _<_, _≤_}
-use mathlib.Core.Path.{_≡_, refl, sym, ap, _∙_}
-use mathlib.Core.Bool.{Bool, true, false, _&&_}
-use mathlib.Core.List.{List, [], _∷_, _++_}
+use Prim.Native.Nat.{ℕ, _+_, _*_, _^_, _<_, _≤_}
+use mathlib.Core.Path.{_≡_, refl, sym, _∙_}
+use mathlib.Core.Bool.{Bool, true, false}
+use mathlib.Core.List.{List, [], _∷_}
 use mathlib.Core.Logic.{_↔_}
 use native.Mathlib.Omega.{arith}
-use lib.Dec.{ltb, eqb, lit≤}
+use lib.Dec.{ltb, eqb}
 use lib.ListN.{length, getD, length-append}
-use borrow.Author.Tests.{ltb-false, eq-eqb, ne-eqb, eqb-true, eqb-false, le-ltb}
-use Rattle.byte.specs.Byte.{pick, between}
+use borrow.Author.Tests.{ltb-false, eq-eqb, eqb-true, le-ltb}
+use Rattle.byte.specs.Byte.{pick}
 use Rattle.byte.specs.Digit.{digitOf}
 use Rattle.byte.proofs.Laws.{and-false}
 use Rattle.number.specs.declared.Number.{Number}
-use Rattle.number.specs.Digits.{allDigits, valueIn}
 use Rattle.number.specs.Number.{digitsIn}
 use Rattle.number.proofs.Laws.{digits-is, digits-told, Told}
 use Rattle.split.specs.Split.{split, join}
@@ -63,9 +62,20 @@ parts-sound (p ∷ q ∷ r ∷ t ∷ []) v e = by (partOf p) (partOf q) (partOf 
     by (Part.Is a) (Part.Is b) (Part.Is c) (Part.Is d) i j k l e =
         let m : v ≡ a * 2 ^ 24 + b * 2 ^ 16 + c * 2 ^ 8 + d = cc in
         record {
-          p = p; q = q; r = r; t = t; a = a; b = b; c = c; d = d;
-          first = part-sound p a i; second = part-sound q b j; third = part-sound r c k; fourth = part-sound t d l;
-          text = refl; means = m;
+          p = p;
+          q = q;
+          r = r;
+          t = t;
+          a = a;
+          b = b;
+          c = c;
+          d = d;
+          first = part-sound p a i;
+          second = part-sound q b j;
+          third = part-sound r c k;
+          fourth = part-sound t d l;
+          text = refl;
+          means = m;
         }
     by (Part.Is a) (Part.Is b) (Part.Is c) Part.Not i j k l e = let x : _≡_ {A = ℕ} 0 1 = cc in absurd (omega arith)
     by (Part.Is a) (Part.Is b) Part.Not d i j k l e = let x : _≡_ {A = ℕ} 0 1 = cc in absurd (omega arith)
@@ -84,7 +94,7 @@ pub v4-complete : (s : List ℕ) (v : ℕ) → V4Text s v → v4Of s ≡ Four.Is
 unfolding v4Of partsOf
 v4-complete s v k =
     let free : AllFree 46 (k .p ∷ k .q ∷ k .r ∷ k .t ∷ []) =
-        free-more (part-free 46 dot-no-digit (k .first)) (free-more (part-free 46 dot-no-digit (k .second)) (free-more (part-free 46 dot-no-digit (k .third)) (free-one (part-free 46 dot-no-digit (k .fourth))))) in
+    free-more (part-free 46 dot-no-digit (k .first)) (free-more (part-free 46 dot-no-digit (k .second)) (free-more (part-free 46 dot-no-digit (k .third)) (free-one (part-free 46 dot-no-digit (k .fourth))))) in
     rw (k .text, split-join 46 free, part-complete _ _ (k .first), part-complete _ _ (k .second), part-complete _ _ (k .third), part-complete _ _ (k .fourth), k .means)
 
 pub v4-exactly : (s : List ℕ) (v : ℕ) → (v4Of s ≡ Four.Is v) ↔ V4Text s v

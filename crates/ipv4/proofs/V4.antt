@@ -6,7 +6,7 @@ use mathlib.Core.List.{List, [], _∷_}
 use Prim.Native.Nat.{ℕ, zero, suc, _+_, _-_, _*_, _^_, _<_, _≤_}
 use native.Mathlib.Omega.{arith}
 use lib.Dec.{ltb, lit≤}
-use lib.ListN.{length, getD, drop, take}
+use lib.ListN.{length, drop, take}
 use borrow.Author.Tests.{ltb-true, ltb-false}
 use Rattle.byte.specs.Byte.{pick, between}
 use Rattle.byte.specs.Digit.{digitOf}

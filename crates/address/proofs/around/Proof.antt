@@ -1,4 +1,5 @@
-use mathlib.Core.Path.{_≡_, refl, sym, ap, _∙_}
+-- `address::around`: at most seven groups around the `::`.
+-- Assumes nothing.
 use Prim.Native.Nat.{_+_, _≤_, _<_}
 use native.Mathlib.Omega.{arith}
 use borrow.Author.Tests.{le-leb, lt-leb, not-true, not-false}
@@ -6,16 +7,11 @@ use Rattle.address.specs.Steps.{aroundAt}
 use borrow.Author.Needs.{needs}
 use Rattle.address.proofs.around.Statement.{statement}
 use Rattle.address.proofs.around.Tie as tie
-use Rattle.address.proofs.around.Reads as reads
-use Rattle.address.proofs.around.Lts as lts
-use Rattle.address.proofs.quad_at.Reads as quad-at-reads
 
--- src/lib.rt:264:9
 returns : tie.Need-returns
 unfolding aroundAt
 returns c = simp (not-true (c .before .before .args .l .ok) (c .if1 .taken))
 
--- src/lib.rt:267:9
 returns-2 : tie.Need-returns-2
 unfolding aroundAt
 returns-2 c =
@@ -23,7 +19,6 @@ returns-2 c =
     let a = e₁ .before .before .args in
     simp (not-false (a .l .ok) (e₁ .if1 .left), not-true (a .r .ok) (c .if2 .taken))
 
--- src/lib.rt:270:9
 returns-3 : tie.Need-returns-3
 unfolding aroundAt
 returns-3 c =
@@ -33,7 +28,6 @@ returns-3 c =
     let h : 7 < a .l .n + a .r .n = omega (arith, c .if3 .taken) in
     simp (not-false (a .l .ok) (e₁ .if1 .left), not-false (a .r .ok) (e₂ .if2 .left), lt-leb _ _ h)
 
--- src/lib.rt:273:9
 returns-4 : tie.Need-returns-4
 unfolding aroundAt
 returns-4 c =
@@ -43,15 +37,12 @@ returns-4 c =
     let h : 7 < a .l .n + a .r .n = omega (arith, c .if4 .taken) in
     simp (not-false (a .l .ok) (e₁ .if1 .left), not-false (a .r .ok) (e₂ .if2 .left), lt-leb _ _ h)
 
--- src/lib.rt:275:25
 quad-at-requires : tie.Need-quad-at-requires
 quad-at-requires c κs = search needs
 
--- src/lib.rt:275:43
 quad-at-requires-2 : tie.Need-quad-at-requires-2
 quad-at-requires-2 c κs = search needs
 
--- src/lib.rt:260:1
 returns-5 : tie.Need-returns-5
 unfolding aroundAt
 returns-5 c =

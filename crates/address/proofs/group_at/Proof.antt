@@ -1,42 +1,34 @@
+-- `address::group_at`: one answer for each test.
+-- Assumes nothing.
 use borrow.Author.Tests.{lt-ltb, le-ltb}
 use Rattle.address.specs.Steps.{groupAt}
 use borrow.Author.Needs.{needs}
 use Rattle.address.proofs.group_at.Statement.{statement}
 use Rattle.address.proofs.group_at.Tie as tie
-use Rattle.address.proofs.group_at.Reads as reads
-use Rattle.address.proofs.group_at.Lts as lts
 
--- src/lib.rt:224:16
 mul-result : tie.Need-mul-result
 mul-result c = search needs
 
--- src/lib.rt:224:16
 element-copy-out-result : tie.Need-element-copy-out-result
 element-copy-out-result c = search needs
 
--- src/lib.rt:224:9
 returns : tie.Need-returns
 unfolding groupAt
 returns c = simp (lt-ltb _ _ (c .before .if1 .taken))
 
--- src/lib.rt:226:15
 sub-gap : tie.Need-sub-gap
 sub-gap c = search needs
 
--- src/lib.rt:228:9
 returns-2 : tie.Need-returns-2
 unfolding groupAt
 returns-2 c = simp (le-ltb _ _ (c .before .if1 .left), lt-ltb _ _ (c .if2 .taken))
 
--- src/lib.rt:231:5
 mul-result-2 : tie.Need-mul-result-2
 mul-result-2 c = search needs
 
--- src/lib.rt:231:5
 element-copy-out-result-2 : tie.Need-element-copy-out-result-2
 element-copy-out-result-2 c = search needs
 
--- src/lib.rt:218:1
 returns-3 : tie.Need-returns-3
 unfolding groupAt
 returns-3 c = simp (le-ltb _ _ (c .before .before .if1 .left), le-ltb _ _ (c .before .if2 .left))

@@ -1,46 +1,37 @@
-use mathlib.Core.Path.{_≡_, refl, sym, ap, _∙_}
+-- `address::push`: one answer for each test.
+-- Assumes nothing.
+use mathlib.Core.Path.{_∙_}
 use borrow.Author.Tests.{lt-ltb, le-ltb, not-true, not-false}
 use Rattle.address.specs.Steps.{packed, pushed}
 use borrow.Author.Needs.{needs}
 use Rattle.address.proofs.push.Statement.{statement}
 use Rattle.address.proofs.push.Tie as tie
-use Rattle.address.proofs.push.Reads as reads
-use Rattle.address.proofs.push.Lts as lts
-use Rattle.address.proofs.refuse.Reads as refuse-reads
 
--- src/lib.rt:137:19
 enum-known-x : tie.Need-enum-known-x
 enum-known-x c = search needs
 
--- src/lib.rt:138:9
 enum-told : tie.Need-enum-told
 enum-told c = search needs
 
--- src/lib.rt:138:9
 refuse-requires : tie.Need-refuse-requires
 refuse-requires c κs = search needs
 
--- src/lib.rt:138:9
 returns : tie.Need-returns
 unfolding packed pushed
 returns c = c .refuse .ensures ∙ rw (c .before .enum-told .given .1)
 
--- src/lib.rt:141:9
 refuse-requires-2 : tie.Need-refuse-requires-2
 refuse-requires-2 c κs = search needs
 
--- src/lib.rt:141:9
 returns-2 : tie.Need-returns-2
 unfolding packed pushed
 returns-2 c =
     let k = c .before .before .before .before in
     c .refuse2 .ensures ∙ rw (k .x .given .1, not-true (k .before .before .args .g .ok) (c .before .if1 .taken))
 
--- src/lib.rt:145:9
 refuse-requires-3 : tie.Need-refuse-requires-3
 refuse-requires-3 c κs = search needs
 
--- src/lib.rt:145:9
 returns-3 : tie.Need-returns-3
 unfolding packed pushed
 returns-3 c =
@@ -48,19 +39,15 @@ returns-3 c =
     let k = e .before .before .before in
     c .refuse3 .ensures ∙ rw (k .x .given .1, not-false (k .before .before .args .g .ok) (e .if1 .left), le-ltb (k .before .before .args .g .n) 8 (c .before .if2 .taken))
 
--- src/lib.rt:148:5
 mul-more : tie.Need-mul-more
 mul-more c = search needs
 
--- src/lib.rt:148:5
 element-write-more : tie.Need-element-write-more
 element-write-more c = search needs
 
--- src/lib.rt:149:14
 add-more : tie.Need-add-more
 add-more c = search needs
 
--- src/lib.rt:134:1
 returns-4 : tie.Need-returns-4
 unfolding pushed
 returns-4 c =

@@ -1,5 +1,7 @@
+-- `address::push_last`: the last piece is a group, or the two groups of an IPv4 text.
+-- Assumes nothing.
 use Prim.Native.Nat.{_%_, _^_}
-use mathlib.Core.Path.{_≡_, refl, sym, ap, _∙_}
+use mathlib.Core.Path.{sym, ap, _∙_}
 use borrow.Author.Tests.{not-true, not-false}
 use Rattle.address.specs.declared.Group.{Group}
 use Rattle.address.specs.declared.Groups.{Groups}
@@ -8,64 +10,46 @@ use Rattle.address.proofs.Eight.{last-plain, last-four, last-group}
 use borrow.Author.Needs.{needs}
 use Rattle.address.proofs.push_last.Statement.{statement}
 use Rattle.address.proofs.push_last.Tie as tie
-use Rattle.address.proofs.push_last.Reads as reads
-use Rattle.address.proofs.push_last.Lts as lts
-use Rattle.address.proofs.push.Reads as push-reads
-use Rattle.address.proofs.read_group.Reads as read-group-reads
-use Rattle.ipv4.proofs.read_v4.Reads as read-v4-reads
 
--- src/lib.rt:166:24
 read-group-requires : tie.Need-read-group-requires
 read-group-requires c κs = search needs
 
--- src/lib.rt:166:9
 push-requires : tie.Need-push-requires
 push-requires c κs = search needs
 
--- src/lib.rt:166:9
 returns : tie.Need-returns
 returns c =
     let t = c .before .before in
     let a = t .before .before .args in
     c .push .ensures ∙ ap (pushed (a .g)) (c .before .read-group .ensures) ∙ last-plain (a .g) (a .p .now) (a .tail) (not-true (a .tail) (t .if1 .taken))
 
--- src/lib.rt:168:9
 read-v4-requires : tie.Need-read-v4-requires
 read-v4-requires c κs = search needs
 
--- src/lib.rt:170:18
 enum-known-four : tie.Need-enum-known-four
 enum-known-four c = search needs
 
--- src/lib.rt:171:31
 cast-t11 : tie.Need-cast-t11
 cast-t11 c = search needs
 
--- src/lib.rt:171:13
 push-requires-2 : tie.Need-push-requires-2
 push-requires-2 c κs = search needs
 
--- src/lib.rt:172:23
 cast-t14 : tie.Need-cast-t14
 cast-t14 c = search needs
 
--- src/lib.rt:170:24
 push-requires-3 : tie.Need-push-requires-3
 push-requires-3 c κs = search needs
 
--- src/lib.rt:174:30
 enum-told : tie.Need-enum-told
 enum-told c = search needs
 
--- src/lib.rt:174:30
 read-group-requires-2 : tie.Need-read-group-requires-2
 read-group-requires-2 c κs = search needs
 
--- src/lib.rt:174:22
 push-requires-4 : tie.Need-push-requires-4
 push-requires-4 c κs = search needs
 
--- src/lib.rt:162:1
 returns-2 : tie.Need-returns-2
 returns-2 c =
     let k = c .before .before .before in
@@ -75,7 +59,6 @@ returns-2 c =
     c .push3 .ensures ∙ ap (λ (g : Groups). pushed g (Group.Is (n % 2 ^ 16))) (c .before .push2 .ensures)
     ∙ last-four (a .g) (a .p .now) (a .tail) (not-false (a .tail) (v .before .if1 .left)) n (sym (v .read-v4 .ensures) ∙ k .four .given .1)
 
--- src/lib.rt:162:1
 returns-3 : tie.Need-returns-3
 returns-3 c =
     let k = c .before .before in

@@ -1,35 +1,27 @@
-use mathlib.Core.Path.{_≡_, sym, ap, _∙_}
+-- `address::read_address`: IPv4 goes first; no text is both.
+-- Assumes nothing.
+use mathlib.Core.Path.{_∙_}
 use Rattle.address.specs.Address.{addressOf}
 use borrow.Author.Needs.{needs}
 use Rattle.address.proofs.read_address.Statement.{statement}
 use Rattle.address.proofs.read_address.Tie as tie
-use Rattle.address.proofs.read_address.Reads as reads
-use Rattle.address.proofs.read_address.Lts as lts
-use Rattle.ipv4.proofs.read_v4.Reads as read-v4-reads
-use Rattle.address.proofs.read_v6.Reads as read-v6-reads
 
--- src/lib.rt:293:9
 read-v4-requires : tie.Need-read-v4-requires
 read-v4-requires c κs = search needs
 
--- src/lib.rt:295:18
 enum-known-four : tie.Need-enum-known-four
 enum-known-four c = search needs
 
--- src/lib.rt:299:22
 enum-told : tie.Need-enum-told
 enum-told c = search needs
 
--- src/lib.rt:299:22
 read-v6-requires : tie.Need-read-v6-requires
 read-v6-requires c κs = search needs
 
--- src/lib.rt:290:1
 returns : tie.Need-returns
 unfolding addressOf
 returns c = rw (← (c .before .before .before .read-v4 .ensures), c .before .four .given .1)
 
--- src/lib.rt:290:1
 returns-2 : tie.Need-returns-2
 unfolding addressOf
 returns-2 c = c .read-v6 .ensures ∙ rw (← (c .before .before .before .read-v4 .ensures), c .before .enum-told .given .1)

@@ -1,4 +1,6 @@
-use mathlib.Core.Path.{_≡_, refl, sym, ap, _∙_}
+-- `address::read_group`: the test for the length, then what the digits read as.
+-- Assumes nothing.
+use mathlib.Core.Path.{sym, _∙_}
 use native.Mathlib.Omega.{arith}
 use borrow.Author.Tests.{le-leb, lt-leb}
 use Rattle.number.proofs.Laws.{digits-told}
@@ -6,52 +8,40 @@ use Rattle.address.specs.Address.{groupOf}
 use borrow.Author.Needs.{needs}
 use Rattle.address.proofs.read_group.Statement.{statement}
 use Rattle.address.proofs.read_group.Tie as tie
-use Rattle.address.proofs.read_group.Reads as reads
-use Rattle.address.proofs.read_group.Lts as lts
-use Rattle.number.proofs.read_digits.Reads as read-digits-reads
 
--- src/lib.rt:104:9
 returns : tie.Need-returns
 unfolding groupOf
 returns c = simp (lt-leb _ _ (c .if1 .taken))
 
--- src/lib.rt:106:11
 read-digits-requires : tie.Need-read-digits-requires
 read-digits-requires c κs = search needs
 
--- src/lib.rt:107:28
 enum-known-n : tie.Need-enum-known-n
 enum-known-n c = search needs
 
--- src/lib.rt:107:44
 cast-t8 : tie.Need-cast-t8
 cast-t8 c =
     let m = c .before .before .before in
     omega (arith, digits-told 16 65535 _ _ (sym (m .read-digits .ensures) ∙ c .before .n .given .1) .low)
 
--- src/lib.rt:108:33
 enum-told : tie.Need-enum-told
 enum-told c = search needs
 
--- src/lib.rt:109:34
 enum-told-2 : tie.Need-enum-told-2
 enum-told-2 c = search needs
 
--- src/lib.rt:100:1
 returns-2 : tie.Need-returns-2
 unfolding groupOf
 returns-2 c =
     let m = c .before .before .before in
     rw (le-leb _ _ (m .before .if1 .left), ← (m .read-digits .ensures), c .before .n .given .1)
 
--- src/lib.rt:100:1
 returns-3 : tie.Need-returns-3
 unfolding groupOf
 returns-3 c =
     let m = c .before .before in
     rw (le-leb _ _ (m .before .if1 .left), ← (m .read-digits .ensures), c .enum-told .given .1)
 
--- src/lib.rt:100:1
 returns-4 : tie.Need-returns-4
 unfolding groupOf
 returns-4 c =

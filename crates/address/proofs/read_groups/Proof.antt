@@ -1,5 +1,7 @@
-use Prim.Native.Nat.{ℕ, _≤_, _<_, _+_, _-_}
-use mathlib.Core.Path.{_≡_, refl, sym, ap, _∙_}
+-- `address::read_groups`: the groups are those that are held and those from here on.
+-- Assumes nothing.
+use Prim.Native.Nat.{_≤_, _+_, _-_}
+use mathlib.Core.Path.{_≡_, _∙_}
 use native.Mathlib.Omega.{arith}
 use borrow.Author.Needs.{needs}
 use lib.ListN.{length, drop}
@@ -8,13 +10,6 @@ use Rattle.split.proofs.Split.{first-within}
 use Rattle.address.proofs.Eight.{Reading, reading-start, reading-more, reading-last}
 use Rattle.address.proofs.read_groups.Statement.{statement}
 use Rattle.address.proofs.read_groups.Tie as tie
-use Rattle.address.proofs.read_groups.Reads as reads
-use Rattle.address.proofs.read_groups.Lts as lts
-use Rattle.address.proofs.no_groups.Reads as no-groups-reads
-use Rattle.address.proofs.push.Reads as push-reads
-use Rattle.address.proofs.push_last.Reads as push-last-reads
-use Rattle.address.proofs.read_group.Reads as read-group-reads
-use Rattle.split.proofs.find.Reads as find-reads
 
 abbrev Inv-loop : tie.InvT-loop
 Inv-loop s tail g₀ i₀ e₀ g i e = (i ≤ length s) × (e ≡ i + firstAt 58 (drop i s)) × Reading tail s g i
@@ -22,51 +17,39 @@ Inv-loop s tail g₀ i₀ e₀ g i e = (i ≤ length s) × (e ≡ i + firstAt 58
 abbrev μ-loop : tie.MeasureT-loop
 μ-loop s tail g₀ i₀ e₀ g i e = length s - e
 
--- src/lib.rt:182:9
 no-groups-requires : tie.Need-no-groups-requires Inv-loop μ-loop
 no-groups-requires c κs = search needs
 
--- src/lib.rt:184:9
 find-requires : tie.Need-find-requires Inv-loop μ-loop
 find-requires c κs = search needs
 
--- src/lib.rt:185:5
 loop-holds : tie.Need-loop-holds Inv-loop μ-loop
 loop-holds c = (omega arith, c .find .ensures, reading-start _ _ _ (c .before .no-groups .ensures))
 
--- src/lib.rt:186:32
 sub-read-group : tie.Need-sub-read-group Inv-loop μ-loop
 sub-read-group c = omega (arith, c .before .loop .inv .1)
 
--- src/lib.rt:186:32
 part-read-group-start : tie.Need-part-read-group-start Inv-loop μ-loop
 part-read-group-start c = omega (arith, c .before .loop .inv .1)
 
--- src/lib.rt:186:32
 part-read-group-end : tie.Need-part-read-group-end Inv-loop μ-loop
 part-read-group-end c = omega (arith, c .loop-test .taken)
 
--- src/lib.rt:186:21
 read-group-requires : tie.Need-read-group-requires Inv-loop μ-loop
 read-group-requires c κs = search needs
 
--- src/lib.rt:186:9
 push-requires : tie.Need-push-requires Inv-loop μ-loop
 push-requires c κs = search needs
 
--- src/lib.rt:187:13
 add-i : tie.Need-add-i Inv-loop μ-loop
 add-i c = let t = c .before .before .before in omega (arith, t .loop-test .taken)
 
--- src/lib.rt:188:9
 find-requires-2 : tie.Need-find-requires-2 Inv-loop μ-loop
 find-requires-2 c κs = search needs
 
--- src/lib.rt:185:5
 loop-less : tie.Need-loop-less Inv-loop μ-loop
 loop-less c = let t = c .before .before .before .before in omega (arith, t .loop-test .taken, c .find2 .ensures)
 
--- src/lib.rt:185:5
 loop-again : tie.Need-loop-again Inv-loop μ-loop
 loop-again c =
     let p = c .before in
@@ -78,23 +61,18 @@ loop-again c =
       reading-more _ _ _ _ _ (l .loop .inv .1) (l .loop .inv .2) (t .loop-test .taken) _ (r .read-group .ensures) _ (p .push .ensures),
     )
 
--- src/lib.rt:190:18
 sub-push-last : tie.Need-sub-push-last Inv-loop μ-loop
 sub-push-last c = omega (arith, c .before .loop .inv .1)
 
--- src/lib.rt:190:18
 part-push-last-start : tie.Need-part-push-last-start Inv-loop μ-loop
 part-push-last-start c = omega (arith, c .before .loop .inv .1)
 
--- src/lib.rt:190:18
 part-push-last-end : tie.Need-part-push-last-end Inv-loop μ-loop
 part-push-last-end c = let l = c .before in omega (arith, l .loop .inv .1, first-within 58 (l .before .before .before .before .args .s .now) (l .loop .i) (l .loop .inv .0))
 
--- src/lib.rt:190:5
 push-last-requires : tie.Need-push-last-requires Inv-loop μ-loop
 push-last-requires c κs = search needs
 
--- src/lib.rt:179:1
 returns : tie.Need-returns Inv-loop μ-loop
 returns c =
     let a = c .before .before in

@@ -1,3 +1,5 @@
+-- `address::read_v6`: by the place of the first `::`.
+-- Assumes nothing.
 use mathlib.Core.Path.{_≡_, sym, ap, _∙_}
 use mathlib.Core.Bool.{true, false}
 use mathlib.Core.List.{List}
@@ -13,33 +15,21 @@ use Rattle.address.proofs.Eight.{whole-held, around-held}
 use borrow.Author.Needs.{needs}
 use Rattle.address.proofs.read_v6.Statement.{statement}
 use Rattle.address.proofs.read_v6.Tie as tie
-use Rattle.address.proofs.read_v6.Reads as reads
-use Rattle.address.proofs.read_v6.Lts as lts
-use Rattle.address.proofs.around.Reads as around-reads
-use Rattle.address.proofs.find_gap.Reads as find-gap-reads
-use Rattle.address.proofs.read_groups.Reads as read-groups-reads
-use Rattle.address.proofs.read_side.Reads as read-side-reads
-use Rattle.address.proofs.whole.Reads as whole-reads
 
--- src/lib.rt:282:9
 find-gap-requires : tie.Need-find-gap-requires
 find-gap-requires c κs = search needs
 
--- src/lib.rt:284:22
 read-groups-requires : tie.Need-read-groups-requires
 read-groups-requires c κs = search needs
 
--- src/lib.rt:284:9
 whole-requires : tie.Need-whole-requires
 whole-requires c κs = search needs
 
--- src/lib.rt:284:9
 returns : tie.Need-returns
 returns c =
     let t = c .before .before in
     c .whole .ensures ∙ ap wholeAt (c .before .read-groups .ensures) ∙ whole-held _ ∙ sym (v6-whole _ _ (t .before .find-gap .ensures) (t .if1 .taken))
 
--- src/lib.rt:286:18
 add-behind : tie.Need-add-behind
 add-behind c = search needs
 
@@ -49,35 +39,27 @@ within c =
     let s = c .before .before .before .args .s .now in
     omega (arith, c .before .find-gap .ensures, gap-within s (omega (arith, c .before .find-gap .ensures, c .if1 .left)))
 
--- src/lib.rt:287:22
 slice-aggregate-read-side : tie.Need-slice-aggregate-read-side
 slice-aggregate-read-side c = sym (length-take-le _ _ (omega (arith, within (c .before))))
 
--- src/lib.rt:287:12
 read-side-requires : tie.Need-read-side-requires
 read-side-requires c κs = search needs
 
--- src/lib.rt:287:51
 sub-read-side : tie.Need-sub-read-side
 sub-read-side c = within (c .before .before)
 
--- src/lib.rt:287:51
 part-read-side-start : tie.Need-part-read-side-start
 part-read-side-start c = omega (arith, within (c .before .before))
 
--- src/lib.rt:287:51
 part-read-side-end : tie.Need-part-read-side-end
 part-read-side-end c = search needs
 
--- src/lib.rt:287:41
 read-side-requires-2 : tie.Need-read-side-requires-2
 read-side-requires-2 c κs = search needs
 
--- src/lib.rt:287:5
 around-requires : tie.Need-around-requires
 around-requires c κs = search needs
 
--- src/lib.rt:279:1
 returns-2 : tie.Need-returns-2
 returns-2 c =
     let r = c .before in

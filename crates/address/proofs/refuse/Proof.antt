@@ -1,11 +1,10 @@
+-- `address::refuse`: by computation.
+-- Assumes nothing.
 use mathlib.Core.Path.{refl}
 use Rattle.address.specs.Steps.{packed}
 use Rattle.address.proofs.refuse.Statement.{statement}
 use Rattle.address.proofs.refuse.Tie as tie
-use Rattle.address.proofs.refuse.Reads as reads
-use Rattle.address.proofs.refuse.Lts as lts
 
--- src/lib.rt:123:1
 returns : tie.Need-returns
 unfolding packed
 returns c = refl

@@ -1,21 +1,16 @@
-use mathlib.Core.Path.{_≡_, refl, sym, ap, _∙_}
+-- `address::whole`: eight groups, none left out.
+-- Assumes nothing.
 use native.Mathlib.Omega.{arith}
 use borrow.Author.Tests.{eq-eqb, ne-eqb, not-true, not-false}
 use Rattle.address.specs.Steps.{packed, wholeAt}
 use borrow.Author.Needs.{needs}
 use Rattle.address.proofs.whole.Statement.{statement}
 use Rattle.address.proofs.whole.Tie as tie
-use Rattle.address.proofs.whole.Reads as reads
-use Rattle.address.proofs.whole.Lts as lts
-use Rattle.address.proofs.no_groups.Reads as no-groups-reads
-use Rattle.address.proofs.quad_at.Reads as quad-at-reads
 
--- src/lib.rt:250:9
 returns : tie.Need-returns
 unfolding wholeAt
 returns c = simp (not-true (c .before .before .args .g .ok) (c .if1 .taken))
 
--- src/lib.rt:253:9
 returns-2 : tie.Need-returns-2
 unfolding wholeAt
 returns-2 c =
@@ -23,21 +18,17 @@ returns-2 c =
     let g = e .before .before .args .g in
     simp (not-false (g .ok) (e .if1 .left), ne-eqb (g .n) 8 (c .if2 .taken))
 
--- src/lib.rt:255:9
 no-groups-requires : tie.Need-no-groups-requires
 no-groups-requires c κs = search needs
 
--- src/lib.rt:256:25
 quad-at-requires : tie.Need-quad-at-requires
 unfolding packed
 quad-at-requires c κs = (omega arith, rw (c .no-groups .ensures) (omega arith))
 
--- src/lib.rt:256:46
 quad-at-requires-2 : tie.Need-quad-at-requires-2
 unfolding packed
 quad-at-requires-2 c κs = (omega arith, rw (c .before .no-groups .ensures) (omega arith))
 
--- src/lib.rt:246:1
 returns-3 : tie.Need-returns-3
 unfolding wholeAt
 returns-3 c =

@@ -1,61 +1,49 @@
-use mathlib.Core.Path.{_≡_, refl, sym, ap, _∙_}
+-- `ipv4::read_part`: the test for a leading zero, then what the digits read as.
+-- Assumes nothing.
+use mathlib.Core.Path.{sym, _∙_}
 use native.Mathlib.Omega.{arith}
 use Rattle.number.proofs.Laws.{digits-told}
 use Rattle.ipv4.specs.V4.{partOf}
 use borrow.Author.Needs.{needs}
 use Rattle.ipv4.proofs.read_part.Statement.{statement}
 use Rattle.ipv4.proofs.read_part.Tie as tie
-use Rattle.ipv4.proofs.read_part.Reads as reads
-use Rattle.ipv4.proofs.read_part.Lts as lts
-use Rattle.ipv4.proofs.is_zero_led.Reads as is-zero-led-reads
-use Rattle.number.proofs.read_digits.Reads as read-digits-reads
 
--- src/lib.rt:65:8
 is-zero-led-requires : tie.Need-is-zero-led-requires
 is-zero-led-requires c κs = search needs
 
--- src/lib.rt:66:9
 returns : tie.Need-returns
 unfolding partOf
 returns c = rw (← (c .before .is-zero-led .ensures), c .if1 .taken)
 
--- src/lib.rt:68:11
 read-digits-requires : tie.Need-read-digits-requires
 read-digits-requires c κs = search needs
 
--- src/lib.rt:69:28
 enum-known-n : tie.Need-enum-known-n
 enum-known-n c = search needs
 
--- src/lib.rt:69:43
 cast-t7 : tie.Need-cast-t7
 cast-t7 c =
     let m = c .before .before .before in
     omega (arith, digits-told 10 255 _ _ (sym (m .read-digits .ensures) ∙ c .before .n .given .1) .low)
 
--- src/lib.rt:70:33
 enum-told : tie.Need-enum-told
 enum-told c = search needs
 
--- src/lib.rt:71:34
 enum-told-2 : tie.Need-enum-told-2
 enum-told-2 c = search needs
 
--- src/lib.rt:62:1
 returns-2 : tie.Need-returns-2
 unfolding partOf
 returns-2 c =
     let m = c .before .before .before in
     rw (← (m .before .before .is-zero-led .ensures), m .before .if1 .left, ← (m .read-digits .ensures), c .before .n .given .1)
 
--- src/lib.rt:62:1
 returns-3 : tie.Need-returns-3
 unfolding partOf
 returns-3 c =
     let m = c .before .before in
     rw (← (m .before .before .is-zero-led .ensures), m .before .if1 .left, ← (m .read-digits .ensures), c .enum-told .given .1)
 
--- src/lib.rt:62:1
 returns-4 : tie.Need-returns-4
 unfolding partOf
 returns-4 c =

@@ -1,23 +1,18 @@
-use lib.ListN.{length-drop}
+-- `ipv4::read_v4`: the whole is what the parts so far and those from here on make; the number so far stays below a roof.
+-- Assumes nothing.
+use lib.ListN.{length-drop, length, drop, take}
 use lib.Seq.{take-all}
-use Prim.Native.Nat.{ℕ, suc, _≤_, _<_, _+_, _-_}
-use mathlib.Core.Path.{_≡_, refl, sym, ap, _∙_}
+use Prim.Native.Nat.{ℕ, _≤_, _<_, _+_, _-_}
+use mathlib.Core.Path.{_≡_, sym, ap, _∙_}
 use mathlib.Core.List.{List}
 use native.Mathlib.Omega.{arith}
 use borrow.Author.Needs.{needs}
-use lib.ListN.{length, drop, take}
 use Rattle.split.specs.Split.{split}
-use Rattle.split.proofs.Split.{first-within}
 use Rattle.ipv4.specs.declared.Four.{Four}
 use Rattle.ipv4.specs.V4.{v4Of, partOf, withPart}
 use Rattle.ipv4.proofs.V4.{partsFrom, v4-start, parts-more, parts-short, parts-last, parts-refused, roof, roof-most, part-room}
 use Rattle.ipv4.proofs.read_v4.Statement.{statement}
 use Rattle.ipv4.proofs.read_v4.Tie as tie
-use Rattle.ipv4.proofs.read_v4.Reads as reads
-use Rattle.ipv4.proofs.read_v4.Lts as lts
-use Rattle.ipv4.proofs.read_part.Reads as read-part-reads
-use Rattle.ipv4.proofs.with_part.Reads as with-part-reads
-use Rattle.split.proofs.find.Reads as find-reads
 
 abbrev Inv-loop : tie.InvT-loop
 Inv-loop s v₀ left₀ i₀ v left i = (i ≤ length s) × (left ≤ 3) × (v < roof left) × (v4Of s ≡ partsFrom left (Four.Is v) (split 46 (drop i s)))
@@ -25,37 +20,29 @@ Inv-loop s v₀ left₀ i₀ v left i = (i ≤ length s) × (left ≤ 3) × (v <
 abbrev μ-loop : tie.MeasureT-loop
 μ-loop s v₀ left₀ i₀ v left i = left
 
--- src/lib.rt:93:5
 loop-holds : tie.Need-loop-holds Inv-loop μ-loop
 loop-holds c = (omega arith, omega arith, omega arith, v4-start _)
 
--- src/lib.rt:94:13
 find-requires : tie.Need-find-requires Inv-loop μ-loop
 find-requires c κs = search needs
 
--- src/lib.rt:96:13
 returns : tie.Need-returns Inv-loop μ-loop
 returns c =
     let l = c .before .before .before in
     sym (l .loop .inv .3 ∙ parts-short _ _ _ (c .before .find .ensures) _ _ (c .before .before .loop-test .taken) (c .if1 .taken))
 
--- src/lib.rt:98:43
 sub-read-part : tie.Need-sub-read-part Inv-loop μ-loop
 sub-read-part c = omega (arith, c .before .find .ensures)
 
--- src/lib.rt:98:43
 part-read-part-start : tie.Need-part-read-part-start Inv-loop μ-loop
 part-read-part-start c = omega (arith, c .before .find .ensures)
 
--- src/lib.rt:98:43
 part-read-part-end : tie.Need-part-read-part-end Inv-loop μ-loop
 part-read-part-end c = omega (arith, c .if1 .left)
 
--- src/lib.rt:98:33
 read-part-requires : tie.Need-read-part-requires Inv-loop μ-loop
 read-part-requires c κs = search needs
 
--- src/lib.rt:98:13
 with-part-requires : tie.Need-with-part-requires Inv-loop μ-loop
 with-part-requires c κs = let l = c .before .before .before .before .before in roof-most (l .loop .left) _ (l .loop .inv .2)
 
@@ -82,31 +69,24 @@ module _ (c : tie.After-with-part Inv-loop μ-loop) where
       ∙ parts-more text (here .loop .i) (found .find .result) (found .find .ensures) (Four.Is (here .loop .v)) (here .loop .left) (found .before .loop-test .taken) (c .before .before .before .if1 .left)
       ∙ ap (λ (f : Four). partsFrom (here .loop .left - 1) f (split 46 (drop (found .find .result + 1) text))) (read f q)
 
--- src/lib.rt:99:22
 enum-known-four : tie.Need-enum-known-four Inv-loop μ-loop
 enum-known-four c = search needs
 
--- src/lib.rt:100:13
 enum-told : tie.Need-enum-told Inv-loop μ-loop
 enum-told c = search needs
 
--- src/lib.rt:100:13
 returns-2 : tie.Need-returns-2 Inv-loop μ-loop
 returns-2 c = let w = c .before .before in sym (turned w _ (c .enum-told .given .1) ∙ parts-refused _ _)
 
--- src/lib.rt:103:9
 sub-left : tie.Need-sub-left Inv-loop μ-loop
 sub-left c = omega arith
 
--- src/lib.rt:104:13
 add-i : tie.Need-add-i Inv-loop μ-loop
 add-i c = let w = c .before .before .before in omega (arith, w .before .before .before .if1 .left)
 
--- src/lib.rt:93:5
 loop-less : tie.Need-loop-less Inv-loop μ-loop
 loop-less c = omega arith
 
--- src/lib.rt:93:5
 loop-again : tie.Need-loop-again Inv-loop μ-loop
 loop-again c =
     let w = c .before .before .before in
@@ -117,27 +97,21 @@ loop-again c =
       turned w _ (c .before .four .given .1),
     )
 
--- src/lib.rt:106:28
 sub-read-part-2 : tie.Need-sub-read-part-2 Inv-loop μ-loop
 sub-read-part-2 c = omega arith
 
--- src/lib.rt:106:28
 part-read-part-start-2 : tie.Need-part-read-part-start-2 Inv-loop μ-loop
 part-read-part-start-2 c = omega arith
 
--- src/lib.rt:106:28
 part-read-part-end-2 : tie.Need-part-read-part-end-2 Inv-loop μ-loop
 part-read-part-end-2 c = omega arith
 
--- src/lib.rt:106:18
 read-part-requires-2 : tie.Need-read-part-requires-2 Inv-loop μ-loop
 read-part-requires-2 c κs = search needs
 
--- src/lib.rt:106:5
 with-part-requires-2 : tie.Need-with-part-requires-2 Inv-loop μ-loop
 with-part-requires-2 c κs = let l = c .before .before .before in roof-most (l .loop .left) _ (l .loop .inv .2)
 
--- src/lib.rt:87:1
 returns-3 : tie.Need-returns-3 Inv-loop μ-loop
 returns-3 c =
     let l = c .before .before .before .before in

@@ -1,6 +1,6 @@
 -- `split::find`: the whole answer is what it is from here on.
 -- Assumes nothing.
-use Prim.Native.Nat.{ℕ, suc, _≤_, _+_, _-_}
+use Prim.Native.Nat.{_+_, _-_}
 use mathlib.Core.Path.{_≡_, refl}
 use native.Mathlib.Omega.{arith}
 use lib.ListN.{length, drop}
