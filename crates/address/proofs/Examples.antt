@@ -7,7 +7,7 @@ use Prim.Native.String.{String}
 use Rattle.byte.specs.Byte.{between}
 use Rattle.byte.specs.Digit.{digitOf}
 use Rattle.byte.specs.Same.{same}
-use Rattle.number.proofs.Ascii.{bytes}
+use Rattle.byte.specs.Ascii.{bytes}
 use Rattle.number.specs.Digits.{allDigits, valueFrom, valueIn}
 use Rattle.number.specs.Number.{digitsIn}
 use Rattle.split.specs.Split.{split}

@@ -47,7 +47,7 @@ group-sound p n = by (leb (length p) 4) (digitsIn 16 65535 p) refl refl
     by true Number.Range z q e = let x : _≡_ {A = ℕ} 0 1 = cc in absurd (omega arith)
 
 -- four hex digits stay below 65,536
-four-digits : (k v : ℕ) → k ≤ 4 → v < 16 ^ k → v ≤ 65535
+pub four-digits : (k v : ℕ) → k ≤ 4 → v < 16 ^ k → v ≤ 65535
 four-digits zero v h l = omega arith
 four-digits (suc zero) v h l = omega arith
 four-digits (suc (suc zero)) v h l = omega arith

@@ -1,4 +1,5 @@
 pub mod Gap
 pub mod Eight
 pub mod Form
+pub mod Bounds
 pub mod Examples

@@ -82,7 +82,7 @@ around (some l) none = AddressRead.Not
 around (some l) (some r) =
     pick (leb (length l + length r) 7) (v6 (l ++ replicate (8 - (length l + length r)) 0 ++ r)) AddressRead.Not
 
--- "The '::' can only appear once in an address": what stands behind the first one may have none, since no piece is empty
+-- "The '::' can only appear once in an address": a second one would leave an empty piece behind the first, and no group is empty
 unfoldable pub v6Of : List ℕ → AddressRead
 v6Of s =
     pick (ltb (gapAt s) (length s))

@@ -40,3 +40,8 @@ pub data V6Text (s gs : List ℕ) : Type 0 where
 pub data AddressText (s : List ℕ) (a : Address) : Type 0 where
   four-parts : (v : ℕ) → V4Text s v → a ≡ record { kind = Kind.V4 v } → AddressText s a
   eight-groups : (gs : List ℕ) → V6Text s gs → a ≡ record { kind = Kind.V6 (quad gs 0) (quad gs 4) } → AddressText s a
+
+-- an address's numbers have 32 bits, or 64 each
+abbrev pub Within : Kind → Type 0
+Within (Kind.V4 v) = v < 2 ^ 32
+Within (Kind.V6 high low) = (high < 2 ^ 64) × (low < 2 ^ 64)

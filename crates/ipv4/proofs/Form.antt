@@ -3,7 +3,7 @@
 use Prim.Native.Nat.{ℕ, _+_, _*_, _^_, _<_, _≤_}
 use mathlib.Core.Path.{_≡_, refl, sym, _∙_}
 use mathlib.Core.Bool.{Bool, true, false}
-use mathlib.Core.List.{List, [], _∷_}
+use mathlib.Core.List.{List, [], _∷_, _++_}
 use mathlib.Core.Logic.{_↔_}
 use native.Mathlib.Omega.{arith}
 use lib.Dec.{ltb, eqb}
@@ -16,7 +16,7 @@ use Rattle.number.specs.declared.Number.{Number}
 use Rattle.number.specs.Number.{digitsIn}
 use Rattle.number.proofs.Laws.{digits-is, digits-told, Told}
 use Rattle.split.specs.Split.{split, join}
-use Rattle.split.proofs.Split.{Free, free-cons, free-append, AllFree, free-one, free-more, join-split, split-join}
+use Rattle.split.proofs.Split.{Free, free-cons, free-append, AllFree, free-one, free-more, join-one, join-more, join-split, split-join}
 use Rattle.ipv4.specs.declared.Part.{Part}
 use Rattle.ipv4.specs.declared.Four.{Four}
 use Rattle.ipv4.specs.V4.{asPart, zeroLed, partOf, fourOf, partsOf, v4Of}
@@ -100,17 +100,24 @@ v4-complete s v k =
 pub v4-exactly : (s : List ℕ) (v : ℕ) → (v4Of s ≡ Four.Is v) ↔ V4Text s v
 v4-exactly s v = (v4-sound s v, v4-complete s v)
 
--- neither a byte that is no digit nor a dot stands in it, and it is not empty
+-- what stands in such a text: no byte that is neither a digit nor a dot
+joined : (p q r t : List ℕ) → join 46 (p ∷ q ∷ r ∷ t ∷ []) ≡ p ++ 46 ∷ (q ++ 46 ∷ (r ++ 46 ∷ t))
+joined p q r t = rw (join-more 46 p q (r ∷ t ∷ []), join-more 46 q r (t ∷ []), join-more 46 r t [], join-one 46 t)
+
 pub v4-free : (b : ℕ) → 10 ≤ digitOf b → (b ≡ 46 → ⊥) → (s : List ℕ) (v : ℕ) → V4Text s v → Free b s
-unfolding join
 v4-free b h n s v k =
     let dot : (t : List ℕ) → Free b t → Free b (46 ∷ t) = λ t f. free-cons b 46 t (λ e. n (sym e)) f in
-    rw (k .text)
+    rw (k .text, joined (k .p) (k .q) (k .r) (k .t))
     (free-append b (k .p) _ (part-free b h (k .first))
     (dot _ (free-append b (k .q) _ (part-free b h (k .second))
     (dot _ (free-append b (k .r) _ (part-free b h (k .third))
     (dot _ (part-free b h (k .fourth))))))))
 
 pub v4-some : (s : List ℕ) (v : ℕ) → V4Text s v → 0 < length s
-unfolding join
-v4-some s v k = rw (k .text) (omega (arith, k .first .some, length-append (k .p) (46 ∷ join 46 (k .q ∷ k .r ∷ k .t ∷ []))))
+v4-some s v k =
+    rw (k .text, joined (k .p) (k .q) (k .r) (k .t))
+    (omega (arith, k .first .some, length-append (k .p) (46 ∷ (k .q ++ 46 ∷ (k .r ++ 46 ∷ k .t)))))
+
+-- it stands for a number of 32 bits
+pub v4-below : (s : List ℕ) (v : ℕ) → V4Text s v → v < 2 ^ 32
+v4-below s v k = omega (arith, k .means, k .first .low, k .second .low, k .third .low, k .fourth .low)
