@@ -6,12 +6,12 @@ use mathlib.Core.Bool.{Bool, true, false, _&&_}
 use mathlib.Core.List.{List, [], _∷_}
 use native.Mathlib.Omega.{arith}
 use native.Mathlib.Numerals.{add-one}
-use lib.Dec.{eqb}
+use lib.Dec.{eqb, leb·zero}
 use lib.ListN.{length, take, drop, getD, drop-of-length-le}
 use lib.Seq.{drop-cons}
-use borrow.Author.Tests.{eq-eqb, ne-eqb, eqb-true, le-leb, lt-leb}
+use borrow.Author.Tests.{eq-eqb, ne-eqb, eqb-true, le-leb, lt-leb, leb-true}
 use Rattle.byte.specs.Same.{same, standsAt}
-use Rattle.byte.proofs.Laws.{and-false}
+use Rattle.byte.proofs.Laws.{and-left, and-false}
 
 pub same-refl : (s : List ℕ) → same s s ≡ true
 unfolding same
@@ -60,3 +60,13 @@ module _ (w : List ℕ) (at : ℕ) (s : List ℕ) where
   pub stands-within : at + length w ≤ length s → standsAt w at s ≡ same (take (length w) (drop at s)) w
   unfolding standsAt
   stands-within h = rw (le-leb _ _ h)
+
+-- what stands at a place stands within the text
+pub stands-room : (w : List ℕ) (at : ℕ) (s : List ℕ) → standsAt w at s ≡ true → at + length w ≤ length s
+unfolding standsAt
+stands-room w at s e = leb-true (at + length w) (length s) (and-left _ _ e)
+
+-- nothing stands at the start of every text
+pub stands-nothing : (s : List ℕ) → standsAt [] 0 s ≡ true
+unfolding standsAt same
+stands-nothing s = rw (leb·zero _)

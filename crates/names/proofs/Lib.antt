@@ -1,3 +1,4 @@
 pub mod Among
 pub mod Rows
 pub mod Examples
+pub mod Prefix

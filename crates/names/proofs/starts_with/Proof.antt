@@ -1,22 +1,16 @@
-use lib.Dec.{leb·zero}
-use mathlib.Core.Path.{_≡_, sym, ap, _∙_}
-use mathlib.Core.List.{List, []}
-use mathlib.Core.Bool.{true}
+use Rattle.byte.proofs.Same.{stands-nothing}
+use mathlib.Core.Path.{sym, ap, _∙_}
+use mathlib.Core.List.{List}
 use Prim.Native.Nat.{ℕ}
-use Rattle.byte.specs.Same.{standsAt, same}
+use Rattle.byte.specs.Same.{standsAt}
 use Rattle.names.specs.Names.{fixed}
 use Rattle.names.proofs.Rows.{ends, table, upTo, joined, starts, within, entry, beyond}
 use borrow.Author.Needs.{needs}
 use Rattle.names.proofs.starts_with.Statement.{statement}
 use Rattle.names.proofs.starts_with.Tie as tie
 
--- nothing stands at the start of every text
-nothing : (s : List ℕ) → standsAt [] 0 s ≡ true
-unfolding standsAt same
-nothing s = rw (leb·zero _)
-
 returns : tie.Need-returns
-returns c = sym (ap (λ (w : List ℕ). standsAt w 0 (c .before .before .args .s .now)) (beyond (c .before .before .args .i) (c .if1 .taken)) ∙ nothing _)
+returns c = sym (ap (λ (w : List ℕ). standsAt w 0 (c .before .before .args .s .now)) (beyond (c .before .before .args .i) (c .if1 .taken)) ∙ stands-nothing _)
 
 mul-a : tie.Need-mul-a
 mul-a c = search needs

@@ -1,0 +1,25 @@
+-- Laws of the prefix that makes a text a URI.
+-- Assumes nothing.
+use Prim.Native.Nat.{ℕ, _≤_}
+use mathlib.Core.Path.{_≡_, refl}
+use mathlib.Core.Bool.{Bool, true, false}
+use mathlib.Core.List.{List, [], _∷_}
+use native.Mathlib.Omega.{arith}
+use lib.ListN.{length}
+use borrow.Author.Tests.{leb-true}
+use Rattle.byte.specs.Ascii.{bytes}
+use Rattle.byte.specs.Byte.{pick}
+use Rattle.byte.specs.Same.{standsAt}
+use Rattle.byte.proofs.Same.{stands-room}
+use Rattle.names.specs.Find.{prefixLen, startLen}
+
+by-tests : (s : List ℕ) (p q : Bool) → standsAt (bytes "postgres://") 0 s ≡ p → standsAt (bytes "postgresql://") 0 s ≡ q → (pick p 11 (pick q 13 0) ≡ 0 → ⊥)
+    → (11 ≤ pick p 11 (pick q 13 0)) × (pick p 11 (pick q 13 0) ≤ length s)
+by-tests s true q e f h = (omega arith, stands-room (bytes "postgres://") 0 s e)
+by-tests s false true e f h = (omega arith, stands-room (bytes "postgresql://") 0 s f)
+by-tests s false false e f h = absurd (h refl)
+
+-- a prefix has at least eleven bytes, and stands within the text
+pub prefix-long : (s : List ℕ) → (prefixLen s ≡ 0 → ⊥) → (11 ≤ prefixLen s) × (prefixLen s ≤ length s)
+unfolding prefixLen startLen
+prefix-long s h = by-tests s (standsAt (bytes "postgres://") 0 s) (standsAt (bytes "postgresql://") 0 s) refl refl h
