@@ -1,0 +1,7 @@
+pub mod Runs
+pub mod Rules
+pub mod Pieces
+pub mod Steps
+pub mod Stands
+pub mod Reading
+pub mod Examples
