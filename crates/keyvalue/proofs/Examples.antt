@@ -73,7 +73,7 @@ table = edges ++ spaced
 
 pub read-so : map (λ (e : Example). keyValue (e .text)) table ≡ map said table
 unfolding
-  keyValue keyValueFrom reads parameterAt keyAt signAt valueAt simpleAt quotedAt unescapedFrom
-  runFrom startsSpace spaceLen endsKey keyLen pieceLen startsQuote
-  isSpace within spaces between charAt charOf longer two three four least greatest keyNumber numberIn among same
+    keyValue keyValueFrom reads parameterAt keyAt signAt valueAt simpleAt quotedAt unescapedFrom
+    runFrom startsSpace spaceLen endsKey keyLen pieceLen startsQuote
+    isSpace within spaces between charAt charOf longer two three four least greatest keyNumber numberIn among same
 read-so = refl

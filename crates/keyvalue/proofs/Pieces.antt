@@ -10,10 +10,9 @@ use native.Mathlib.Omega.{arith}
 use lib.Dec.{eqb, ltb}
 use lib.ListN.{length, drop, take, getD, drop-of-length-le}
 use lib.Seq.{drop-cons, take-length}
-use borrow.Author.Tests.{eq-eqb, ne-eqb, eqb-true, eqb-false}
+use borrow.Author.Tests.{ne-eqb, eqb-true, eqb-false}
 use Rattle.byte.specs.Byte.{pick}
-use Rattle.keyvalue.specs.declared.Raw.{Raw}
-use Rattle.keyvalue.specs.Scan.{runFrom, run, endOf, part, pieceLen, gainedAt, until}
+use Rattle.keyvalue.specs.Scan.{runFrom, run, endOf, pieceLen, gainedAt, until}
 use Rattle.keyvalue.specs.KeyValue.{unescapedFrom, unescaped, rawAt}
 use Rattle.keyvalue.proofs.Runs.{end-stop, end-past, run-stop}
 

@@ -7,7 +7,7 @@ use Prim.Native.Nat.{ℕ, zero, suc, _+_, _-_, _≤_, _<_}
 use native.Mathlib.Nat.{add-zero, add-assoc}
 use native.Mathlib.Omega.{arith}
 use lib.Dec.{leb, eqb}
-use lib.ListN.{length, take, drop, getD, length-drop, drop-of-length-le}
+use lib.ListN.{length, drop, getD, length-drop, drop-of-length-le}
 use lib.Seq.{drop-drop, getD-drop}
 use borrow.Author.Tests.{leb-true, leb-false, le-leb, lt-leb, eqb-true, eqb-false, eq-eqb, ne-eqb}
 use Rattle.byte.specs.Byte.{pick}
@@ -20,7 +20,7 @@ use Rattle.keyvalue.specs.declared.Step.the-variants.{Done, Refused, Fou
 use Rattle.keyvalue.specs.Scan.{runFrom, endOf, part, spaceLen, keyLen, quotedLen, simpleLen}
 use Rattle.keyvalue.specs.KeyValue.{unescaped, keyOf, rawAt, quotedAt, simpleAt, valueAt, signAt, keyAt, parameterAt, reads, keyValueFrom, keyValue}
 use Rattle.keyvalue.proofs.Runs.{end-shift}
-use Rattle.keyvalue.proofs.Stands.{Stands, stands}
+use Rattle.keyvalue.proofs.Stands.{stands}
 
 -- places counted from a place on
 abbrev movedKey : ℕ → Key → Key

@@ -13,7 +13,7 @@ use borrow.Author.Tests.{lt-leb, not-true, eq-eqb, ne-eqb}
 use Rattle.byte.specs.Byte.{pick, between}
 use Rattle.byte.proofs.Laws.{past, In, between-in}
 use Rattle.byte.proofs.Table.{every, holds-at}
-use Rattle.utf8.specs.Utf8.{charAt, char}
+use Rattle.utf8.specs.Utf8.{charAt}
 use Rattle.utf8.specs.declared.Char.{Char}
 use Rattle.utf8.proofs.Laws.{inside, ascii}
 use Rattle.space.specs.Space.{isSpace, within, spaces}

@@ -1,14 +1,14 @@
 -- Where a parameter that was found stands: laws on places, for the loop that reads on behind it.
 -- Assumes nothing.
-use mathlib.Core.Path.{_≡_, refl, sym, ap, _∙_}
+use mathlib.Core.Path.{_≡_, refl}
 use mathlib.Core.Bool.{Bool, true, false}
 use mathlib.Core.List.{List}
 use Prim.Native.Nat.{ℕ, _+_, _-_, _≤_, _<_}
 use native.Mathlib.Omega.{arith}
 use lib.Dec.{leb, eqb}
-use lib.ListN.{length, take, drop, getD, length-drop}
+use lib.ListN.{length, drop, getD, length-drop}
 use lib.Seq.{length-take-le}
-use borrow.Author.Tests.{leb-false, eqb-true, eqb-false}
+use borrow.Author.Tests.{leb-false, eqb-false}
 use Rattle.byte.specs.Byte.{pick}
 use Rattle.byte.proofs.Laws.{past}
 use Rattle.names.specs.Find.{keyNumber}

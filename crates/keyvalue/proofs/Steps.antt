@@ -1,15 +1,13 @@
 -- Laws of one parameter, as the code finds it out in turn.
 -- Assumes nothing.
-use mathlib.Core.Path.{_≡_, refl, sym, ap, _∙_}
+use mathlib.Core.Path.{_≡_, _∙_}
 use mathlib.Core.List.{List}
 use Prim.Native.Nat.{ℕ, _+_, _≤_, _<_}
 use lib.ListN.{length, getD}
 use borrow.Author.Tests.{le-leb, lt-leb, eq-eqb, ne-eqb}
 use Rattle.keyvalue.specs.declared.Key.{Key}
-use Rattle.keyvalue.specs.declared.Raw.{Raw}
-use Rattle.keyvalue.specs.declared.Step.{Step}
 use Rattle.keyvalue.specs.declared.Step.the-variants.{Done, Refused, Found}
-use Rattle.keyvalue.specs.Scan.{endOf, part, spaceLen, keyLen, quotedLen, simpleLen}
+use Rattle.keyvalue.specs.Scan.{endOf, spaceLen, keyLen, quotedLen, simpleLen}
 use Rattle.keyvalue.specs.KeyValue.{keyOf, rawAt, quotedAt, simpleAt, valueAt, signAt, keyAt, parameterAt}
 
 -- a value by what stands at its start

@@ -3,11 +3,11 @@
 use Prim.Native.Nat.{ℕ, zero, suc, _+_, _-_}
 use mathlib.Core.Bool.{Bool, true, false}
 use mathlib.Core.List.{List, [], _∷_}
-use lib.Dec.{leb, ltb, eqb}
-use lib.ListN.{length, getD, drop}
+use lib.Dec.{leb, eqb}
+use lib.ListN.{length, getD}
 use Rattle.byte.specs.Byte.{pick}
 use Rattle.names.specs.Find.{keyNumber}
-use Rattle.setting.specs.Setting.{Setting, keyed, Reading, ends, follows}
+use Rattle.setting.specs.Setting.{keyed, Reading, ends, follows}
 use Rattle.keyvalue.specs.declared.Key.{Key}
 use Rattle.keyvalue.specs.declared.Raw.{Raw}
 use Rattle.keyvalue.specs.declared.Step.{Step}

@@ -1,8 +1,8 @@
 -- Scans: how far a rule carries from the front of a text, and the four rules of a key-value text.
--- They go byte by byte where document 01 goes by characters, which comes to the same for any text: proofs/Characters.antt.
+-- They go byte by byte where document 01 goes by characters, which comes to the same for every text of UTF-8: proofs/Characters.antt.
 -- Assumes nothing.
 use Prim.Native.Nat.{ℕ, zero, suc, _+_, _-_}
-use mathlib.Core.Bool.{Bool, true, false, _||_}
+use mathlib.Core.Bool.{Bool, _||_}
 use mathlib.Core.List.{List, [], _∷_}
 use lib.Dec.{ltb, eqb}
 use lib.ListN.{getD, take, drop}

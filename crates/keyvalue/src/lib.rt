@@ -107,7 +107,7 @@ fn simple_value(s: &[u8], at: usize) -> Raw
             return Raw {
                 from: at,
                 to: i,
-                len: len,
+                len,
             };
         }
         let j = gained_at(s, i);
@@ -115,7 +115,7 @@ fn simple_value(s: &[u8], at: usize) -> Raw
             return Raw {
                 from: at,
                 to: j,
-                len: len,
+                len,
             };
         }
         i = j + 1;
@@ -124,7 +124,7 @@ fn simple_value(s: &[u8], at: usize) -> Raw
     Raw {
         from: at,
         to: i,
-        len: len,
+        len,
     }
 }
 
@@ -139,7 +139,7 @@ fn quoted_value(s: &[u8], at: usize) -> Raw
             return Raw {
                 from: at,
                 to: i,
-                len: len,
+                len,
             };
         }
         let j = gained_at(s, i);
@@ -147,7 +147,7 @@ fn quoted_value(s: &[u8], at: usize) -> Raw
             return Raw {
                 from: at,
                 to: j,
-                len: len,
+                len,
             };
         }
         i = j + 1;
@@ -156,7 +156,7 @@ fn quoted_value(s: &[u8], at: usize) -> Raw
     Raw {
         from: at,
         to: i,
-        len: len,
+        len,
     }
 }
 
@@ -165,27 +165,21 @@ fn value(s: &[u8], key: Key, at: usize) -> Step
     ensures { λ r. ⌜ r ≡ valueAt (now (s .entry)) key at ⌝ }
 {
     if byte::at(s, at) == b'\'' {
-        let v = quoted_value(s, at + 1);
-        let end = v.to;
-        if s.len() <= end {
+        let start = at + 1;
+        let value = quoted_value(s, start);
+        let quote = value.to;
+        if s.len() <= quote {
             return Step::Refused(9);
         }
-        return Step::Found {
-            key: key,
-            value: v,
-            next: end + 1,
-        };
+        let next = quote + 1;
+        return Step::Found { key, value, next };
     }
-    let v = simple_value(s, at);
-    if v.len == 0 {
+    let value = simple_value(s, at);
+    if value.len == 0 {
         return Step::Refused(8);
     }
-    let end = v.to;
-    Step::Found {
-        key: key,
-        value: v,
-        next: end,
-    }
+    let next = value.to;
+    Step::Found { key, value, next }
 }
 
 // The parameter that stands at a place, or the end of the reading there.
@@ -205,24 +199,20 @@ pub fn parameter(s: &[u8], at: usize) -> Step
         return Step::Refused(6);
     }
     let number = names::key_number(&s[from..to]);
-    let key = Key {
-        number: number,
-        from: from,
-        to: to,
-    };
+    let key = Key { number, from, to };
     let start = skip_ws(s, sign + 1);
     value(s, key, start)
 }
 
 // How long a value is once decoded.
-fn unescaped_len(s: &[u8]) -> usize
-    ensures { λ r. ⌜ r ≡ length (unescaped (now (s .entry))) ⌝ }
+fn unescaped_len(raw: &[u8]) -> usize
+    ensures { λ r. ⌜ r ≡ length (unescaped (now (raw .entry))) ⌝ }
 {
     let mut i = 0;
     let mut len = 0;
-    while i < s.len() {
-        let j = gained_at(s, i);
-        if s.len() <= j {
+    while i < raw.len() {
+        let j = gained_at(raw, i);
+        if raw.len() <= j {
             return len;
         }
         i = j + 1;
@@ -232,13 +222,13 @@ fn unescaped_len(s: &[u8]) -> usize
 }
 
 // Whether a decoded value has room in `len` bytes from the place `at` on; it is measured only where it hasn't as it is written.
-fn has_room(s: &[u8], len: usize, at: usize) -> bool
-    ensures { λ r. ⌜ r ≡ leb (at + length (unescaped (now (s .entry)))) «len» ⌝ }
+fn has_room(raw: &[u8], len: usize, at: usize) -> bool
+    ensures { λ r. ⌜ r ≡ leb (at + length (unescaped (now (raw .entry)))) «len» ⌝ }
 {
-    if byte::has_room(len, at, s.len()) {
+    if byte::has_room(len, at, raw.len()) {
         return true;
     }
-    let n = unescaped_len(s);
+    let n = unescaped_len(raw);
     byte::has_room(len, at, n)
 }
 

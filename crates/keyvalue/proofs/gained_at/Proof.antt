@@ -1,3 +1,4 @@
+-- `gained_at` meets its contract: a backslash stands within the text, so that a place stands behind it. Assumes nothing.
 use mathlib.Core.Path.{refl}
 use lib.Dec.{eqb}
 use native.Mathlib.Omega.{arith}
@@ -9,26 +10,19 @@ use Rattle.keyvalue.specs.Scan.{gainedAt}
 use borrow.Author.Needs.{needs}
 use Rattle.keyvalue.proofs.gained_at.Statement.{statement}
 use Rattle.keyvalue.proofs.gained_at.Tie as tie
-use Rattle.keyvalue.proofs.gained_at.Reads as reads
-use Rattle.keyvalue.proofs.gained_at.Lts as lts
-use Rattle.byte.proofs.at.Reads as at-reads
 
--- src/lib.rt:96:8
 at-requires : tie.Need-at-requires
 at-requires c κs = search needs
 
--- src/lib.rt:96:35
 add-result : tie.Need-add-result
 add-result c =
     let a = c .before .before .before .args in
     omega (arith, past (λ (b : ℕ). eqb b 92) refl (a .s .now) (a .at) (eq-eqb _ _ (sym (c .before .at .ensures) ∙ c .if1 .taken)))
 
--- src/lib.rt:93:1
 returns : tie.Need-returns
 unfolding gainedAt
 returns c = simp (← (c .before .at .ensures), eq-eqb _ _ (c .if1 .taken))
 
--- src/lib.rt:93:1
 returns-2 : tie.Need-returns-2
 unfolding gainedAt
 returns-2 c = simp (← (c .before .at .ensures), ne-eqb _ _ (c .if1 .left))

@@ -1,3 +1,4 @@
+-- `has_room` meets its contract: a decoded value is never longer than it is written. Assumes nothing.
 use mathlib.Core.Path.{sym, ap, _∙_}
 use Prim.Native.Nat.{ℕ, _+_, _≤_}
 use native.Mathlib.Omega.{arith}
@@ -9,31 +10,22 @@ use Rattle.keyvalue.proofs.Pieces.{shorter}
 use borrow.Author.Needs.{needs}
 use Rattle.keyvalue.proofs.has_room.Statement.{statement}
 use Rattle.keyvalue.proofs.has_room.Tie as tie
-use Rattle.keyvalue.proofs.has_room.Reads as reads
-use Rattle.keyvalue.proofs.has_room.Lts as lts
-use Rattle.byte.proofs.has_room.Reads as has-room-reads
-use Rattle.keyvalue.proofs.unescaped_len.Reads as unescaped-len-reads
 
--- src/lib.rt:238:8
 has-room-requires : tie.Need-has-room-requires
 has-room-requires c κs = search needs
 
--- src/lib.rt:239:9
 returns : tie.Need-returns
 returns c =
     let a = c .before .before .before .args in
-    let wide : a .at + length (a .s .now) ≤ a .len = leb-true _ _ (sym (c .before .has-room .ensures) ∙ c .if1 .taken) in
-    sym (le-leb (a .at + length (unescaped (a .s .now))) (a .len) (omega (arith, shorter (a .s .now))))
+    let wide : a .at + length (a .raw .now) ≤ a .len = leb-true _ _ (sym (c .before .has-room .ensures) ∙ c .if1 .taken) in
+    sym (le-leb (a .at + length (unescaped (a .raw .now))) (a .len) (omega (arith, shorter (a .raw .now))))
 
--- src/lib.rt:241:9
 unescaped-len-requires : tie.Need-unescaped-len-requires
 unescaped-len-requires c κs = search needs
 
--- src/lib.rt:242:5
 has-room-requires-2 : tie.Need-has-room-requires-2
 has-room-requires-2 c κs = search needs
 
--- src/lib.rt:235:1
 returns-2 : tie.Need-returns-2
 returns-2 c =
     let a = c .before .before .before .before .before .args in

@@ -1,28 +1,21 @@
+-- `key_ends` meets its contract: white space or `=`, in this order. Assumes nothing.
 use mathlib.Core.Path.{sym, _∙_}
 use Rattle.keyvalue.proofs.Rules.{at-sign}
 use Rattle.keyvalue.specs.Scan.{endsKey}
 use borrow.Author.Needs.{needs}
 use Rattle.keyvalue.proofs.key_ends.Statement.{statement}
 use Rattle.keyvalue.proofs.key_ends.Tie as tie
-use Rattle.keyvalue.proofs.key_ends.Reads as reads
-use Rattle.keyvalue.proofs.key_ends.Lts as lts
-use Rattle.byte.proofs.at.Reads as at-reads
-use Rattle.keyvalue.proofs.starts_space.Reads as starts-space-reads
 
--- src/lib.rt:72:8
 starts-space-requires : tie.Need-starts-space-requires
 starts-space-requires c κs = search needs
 
--- src/lib.rt:73:9
 returns : tie.Need-returns
 unfolding endsKey
 returns c = simp (← (c .before .starts-space .ensures), c .if1 .taken)
 
--- src/lib.rt:75:5
 at-requires : tie.Need-at-requires
 at-requires c κs = search needs
 
--- src/lib.rt:69:1
 returns-2 : tie.Need-returns-2
 returns-2 c =
     let a = c .before .before .before .before .args in

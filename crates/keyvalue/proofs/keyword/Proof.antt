@@ -1,3 +1,4 @@
+-- `keyword` meets its contract: each turn leaves the run's end where it is. Assumes nothing.
 use borrow.Author.Needs.{needs}
 use mathlib.Core.Path.{_≡_, refl, sym, _∙_}
 use Prim.Native.Nat.{_-_}
@@ -8,9 +9,6 @@ use Rattle.keyvalue.proofs.Runs.{end-past}
 use Rattle.keyvalue.proofs.Rules.{key-stop, key-more}
 use Rattle.keyvalue.proofs.keyword.Statement.{statement}
 use Rattle.keyvalue.proofs.keyword.Tie as tie
-use Rattle.keyvalue.proofs.keyword.Reads as reads
-use Rattle.keyvalue.proofs.keyword.Lts as lts
-use Rattle.keyvalue.proofs.key_ends.Reads as key-ends-reads
 
 abbrev Inv-loop : tie.InvT-loop
 Inv-loop s at i₀ i = endOf keyLen s at ≡ endOf keyLen s i
@@ -18,35 +16,28 @@ Inv-loop s at i₀ i = endOf keyLen s at ≡ endOf keyLen s i
 abbrev μ-loop : tie.MeasureT-loop
 μ-loop s at i₀ i = length s - i
 
--- src/lib.rt:83:5
 loop-holds : tie.Need-loop-holds Inv-loop μ-loop
 loop-holds c = refl
 
--- src/lib.rt:84:12
 key-ends-requires : tie.Need-key-ends-requires Inv-loop μ-loop
 key-ends-requires c κs = search needs
 
--- src/lib.rt:85:13
 returns : tie.Need-returns Inv-loop μ-loop
 returns c =
     let l = c .before .before .before in
     sym (l .loop .inv ∙ key-stop (l .before .before .args .s .now) (l .loop .i) (sym (c .before .key-ends .ensures) ∙ c .if1 .taken))
 
--- src/lib.rt:87:9
 add-i : tie.Need-add-i Inv-loop μ-loop
 add-i c = omega arith
 
--- src/lib.rt:83:5
 loop-less : tie.Need-loop-less Inv-loop μ-loop
 loop-less c = omega arith
 
--- src/lib.rt:83:5
 loop-again : tie.Need-loop-again Inv-loop μ-loop
 loop-again c =
     let l = c .before .before .before in
     l .loop .inv ∙ key-more (l .before .before .args .s .now) (l .loop .i) (omega arith) (sym (c .before .key-ends .ensures) ∙ c .if1 .left)
 
--- src/lib.rt:79:1
 returns-2 : tie.Need-returns-2 Inv-loop μ-loop
 returns-2 c = sym (c .before .loop .inv ∙ end-past keyLen (c .before .before .before .args .s .now) (c .before .loop .i) (omega arith))
 

@@ -1,39 +1,28 @@
-use mathlib.Core.Path.{_≡_, sym, ap, _∙_}
+-- `parameter` meets its contract: by where the key stands, and what stands where `=` must. Assumes nothing.
+use mathlib.Core.Path.{sym, ap, _∙_}
 use Prim.Native.Nat.{ℕ, _+_}
-use Rattle.keyvalue.specs.declared.Key.{Key}
 use Rattle.keyvalue.specs.Scan.{endOf, spaceLen}
-use Rattle.keyvalue.specs.KeyValue.{keyOf, valueAt}
+use Rattle.keyvalue.specs.KeyValue.{valueAt}
 use Rattle.keyvalue.proofs.Steps.{no-key, cut-off, no-sign, signed}
 use borrow.Author.Needs.{needs}
 use Rattle.keyvalue.proofs.parameter.Statement.{statement}
 use Rattle.keyvalue.proofs.parameter.Tie as tie
-use Rattle.keyvalue.proofs.parameter.Reads as reads
-use Rattle.keyvalue.proofs.parameter.Lts as lts
-use Rattle.keyvalue.proofs.keyword.Reads as keyword-reads
-use Rattle.keyvalue.proofs.skip_ws.Reads as skip-ws-reads
-use Rattle.keyvalue.proofs.value.Reads as value-reads
-use Rattle.names.proofs.key_number.Reads as key-number-reads
 
--- src/lib.rt:195:9
 skip-ws-requires : tie.Need-skip-ws-requires
 skip-ws-requires c κs = search needs
 
--- src/lib.rt:196:9
 keyword-requires : tie.Need-keyword-requires
 keyword-requires c κs = search needs
 
--- src/lib.rt:198:9
 returns : tie.Need-returns
 returns c =
     let k = c .before in
     let a = k .before .before .before .args in
     sym (no-key (a .s .now) (a .at) (k .before .skip-ws .result) (k .keyword .result) 0 (k .before .skip-ws .ensures) (k .keyword .ensures) (c .if1 .taken))
 
--- src/lib.rt:200:9
 skip-ws-requires-2 : tie.Need-skip-ws-requires-2
 skip-ws-requires-2 c κs = search needs
 
--- src/lib.rt:202:9
 returns-2 : tie.Need-returns-2
 returns-2 c =
     let w = c .before in
@@ -42,11 +31,9 @@ returns-2 c =
     let a = k .before .before .before .args in
     sym (cut-off (a .s .now) (a .at) (k .before .skip-ws .result) (k .keyword .result) (w .skip-ws2 .result) (k .before .skip-ws .ensures) (k .keyword .ensures) (e .if1 .left) (w .skip-ws2 .ensures) (c .if2 .taken))
 
--- src/lib.rt:204:8
 shared-slice-read-if3 : tie.Need-shared-slice-read-if3
 shared-slice-read-if3 c = search needs
 
--- src/lib.rt:205:9
 returns-3 : tie.Need-returns-3
 returns-3 c =
     let s = c .before .before in
@@ -56,35 +43,27 @@ returns-3 c =
     let a = k .before .before .before .args in
     sym (no-sign (a .s .now) (a .at) (k .before .skip-ws .result) (k .keyword .result) (w .skip-ws2 .result) (k .before .skip-ws .ensures) (k .keyword .ensures) (e .if1 .left) (w .skip-ws2 .ensures) (s .if2 .left) (c .if3 .taken))
 
--- src/lib.rt:207:36
 sub-key-number : tie.Need-sub-key-number
 sub-key-number c = search needs
 
--- src/lib.rt:207:36
 part-key-number-start : tie.Need-part-key-number-start
 part-key-number-start c = search needs
 
--- src/lib.rt:207:36
 part-key-number-end : tie.Need-part-key-number-end
 part-key-number-end c = search needs
 
--- src/lib.rt:207:9
 key-number-requires : tie.Need-key-number-requires
 key-number-requires c κs = search needs
 
--- src/lib.rt:213:28
 add-skip-ws : tie.Need-add-skip-ws
 add-skip-ws c = search needs
 
--- src/lib.rt:213:9
 skip-ws-requires-3 : tie.Need-skip-ws-requires-3
 skip-ws-requires-3 c κs = search needs
 
--- src/lib.rt:214:5
 value-requires : tie.Need-value-requires
 value-requires c κs = search needs
 
--- src/lib.rt:192:1
 returns-4 : tie.Need-returns-4
 returns-4 c =
     let v = c .before in

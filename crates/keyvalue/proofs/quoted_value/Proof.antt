@@ -1,17 +1,15 @@
+-- `quoted_value` meets its contract: goes by pieces until a quote stands there, by the laws of a loop that does so. Assumes nothing.
 use Rattle.keyvalue.specs.Scan.{startsQuote}
 use Rattle.keyvalue.proofs.Rules.{at-quote, no-quote}
 use borrow.Author.Needs.{needs}
-use mathlib.Core.Path.{_≡_, sym, _∙_}
+use mathlib.Core.Path.{_≡_}
 use mathlib.Core.Bool.{false}
-use Prim.Native.Nat.{_+_, _-_, _≤_, _<_}
+use Prim.Native.Nat.{_+_, _-_}
 use native.Mathlib.Omega.{arith}
 use lib.ListN.{length, drop}
 use Rattle.keyvalue.proofs.Pieces.{Scanning, scan-start, scan-turn, scan-stop, scan-last, scan-past, gained-from}
 use Rattle.keyvalue.proofs.quoted_value.Statement.{statement}
 use Rattle.keyvalue.proofs.quoted_value.Tie as tie
-use Rattle.keyvalue.proofs.quoted_value.Reads as reads
-use Rattle.keyvalue.proofs.quoted_value.Lts as lts
-use Rattle.keyvalue.proofs.gained_at.Reads as gained-at-reads
 
 abbrev Inv-loop : tie.InvT-loop
 Inv-loop s at i₀ len₀ i len = Scanning startsQuote s at i len
@@ -19,35 +17,29 @@ Inv-loop s at i₀ len₀ i len = Scanning startsQuote s at i len
 abbrev μ-loop : tie.MeasureT-loop
 μ-loop s at i₀ len₀ i len = length s - i
 
--- src/lib.rt:137:5
 loop-holds : tie.Need-loop-holds Inv-loop μ-loop
 loop-holds c = scan-start _ _ _
 
--- src/lib.rt:138:12
 shared-slice-read-if1 : tie.Need-shared-slice-read-if1 Inv-loop μ-loop
 shared-slice-read-if1 c = omega arith
 
--- src/lib.rt:139:13
 returns : tie.Need-returns Inv-loop μ-loop
 returns c =
     let l = c .before .before .before in
     scan-stop startsQuote (l .before .before .args .s .now) (l .before .before .args .at) (l .loop .i) (l .loop .len) (l .loop .inv) (at-quote (l .before .before .args .s .now) (l .loop .i) (c .if1 .taken))
 
--- src/lib.rt:145:13
 gained-at-requires : tie.Need-gained-at-requires Inv-loop μ-loop
 gained-at-requires c κs = search needs
 
 on : (c : tie.Else1 Inv-loop μ-loop) → startsQuote (drop (c .before .before .before .loop .i) (c .before .before .before .before .before .args .s .now)) ≡ false
 on c = let l = c .before .before .before in no-quote (l .before .before .args .s .now) (l .loop .i) (c .if1 .left)
 
--- src/lib.rt:147:13
 returns-2 : tie.Need-returns-2 Inv-loop μ-loop
 returns-2 c =
     let e = c .before .before in
     let l = e .before .before .before in
     scan-last startsQuote (l .before .before .args .s .now) (l .before .before .args .at) (l .loop .i) (l .loop .len) (l .loop .inv) (omega arith) (on e) (c .before .gained-at .result) (c .before .gained-at .ensures) (c .if2 .taken)
 
--- src/lib.rt:153:13
 add-i : tie.Need-add-i Inv-loop μ-loop
 add-i c = omega arith
 
@@ -57,21 +49,17 @@ turn c =
     let l = e .before .before .before in
     scan-turn startsQuote (l .before .before .args .s .now) (l .before .before .args .at) (l .loop .i) (l .loop .len) (l .loop .inv) (omega arith) (on e) (c .before .gained-at .result) (c .before .gained-at .ensures) (c .if2 .left)
 
--- src/lib.rt:154:9
 add-len : tie.Need-add-len Inv-loop μ-loop
 add-len c = omega (arith, turn c)
 
--- src/lib.rt:137:5
 loop-less : tie.Need-loop-less Inv-loop μ-loop
 loop-less c =
     let l = c .before .before .before .before .before in
     omega (arith, gained-from (l .before .before .args .s .now) (l .loop .i) (omega arith) (c .before .gained-at .result) (c .before .gained-at .ensures))
 
--- src/lib.rt:137:5
 loop-again : tie.Need-loop-again Inv-loop μ-loop
 loop-again c = turn c
 
--- src/lib.rt:132:1
 returns-3 : tie.Need-returns-3 Inv-loop μ-loop
 returns-3 c =
     let l = c .before in

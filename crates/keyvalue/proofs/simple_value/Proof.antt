@@ -1,17 +1,14 @@
+-- `simple_value` meets its contract: goes by pieces until white space begins, by the laws of a loop that does so. Assumes nothing.
 use Rattle.keyvalue.specs.Scan.{startsSpace}
 use borrow.Author.Needs.{needs}
 use mathlib.Core.Path.{_≡_, sym, _∙_}
 use mathlib.Core.Bool.{false}
-use Prim.Native.Nat.{_+_, _-_, _≤_, _<_}
+use Prim.Native.Nat.{_+_, _-_}
 use native.Mathlib.Omega.{arith}
 use lib.ListN.{length, drop}
 use Rattle.keyvalue.proofs.Pieces.{Scanning, scan-start, scan-turn, scan-stop, scan-last, scan-past, gained-from}
 use Rattle.keyvalue.proofs.simple_value.Statement.{statement}
 use Rattle.keyvalue.proofs.simple_value.Tie as tie
-use Rattle.keyvalue.proofs.simple_value.Reads as reads
-use Rattle.keyvalue.proofs.simple_value.Lts as lts
-use Rattle.keyvalue.proofs.gained_at.Reads as gained-at-reads
-use Rattle.keyvalue.proofs.starts_space.Reads as starts-space-reads
 
 abbrev Inv-loop : tie.InvT-loop
 Inv-loop s at i₀ len₀ i len = Scanning startsSpace s at i len
@@ -19,35 +16,29 @@ Inv-loop s at i₀ len₀ i len = Scanning startsSpace s at i len
 abbrev μ-loop : tie.MeasureT-loop
 μ-loop s at i₀ len₀ i len = length s - i
 
--- src/lib.rt:105:5
 loop-holds : tie.Need-loop-holds Inv-loop μ-loop
 loop-holds c = scan-start _ _ _
 
--- src/lib.rt:106:12
 starts-space-requires : tie.Need-starts-space-requires Inv-loop μ-loop
 starts-space-requires c κs = search needs
 
--- src/lib.rt:107:13
 returns : tie.Need-returns Inv-loop μ-loop
 returns c =
     let l = c .before .before .before in
     scan-stop startsSpace (l .before .before .args .s .now) (l .before .before .args .at) (l .loop .i) (l .loop .len) (l .loop .inv) (sym (c .before .starts-space .ensures) ∙ c .if1 .taken)
 
--- src/lib.rt:113:13
 gained-at-requires : tie.Need-gained-at-requires Inv-loop μ-loop
 gained-at-requires c κs = search needs
 
 on : (c : tie.Else1 Inv-loop μ-loop) → startsSpace (drop (c .before .before .before .loop .i) (c .before .before .before .before .before .args .s .now)) ≡ false
 on c = sym (c .before .starts-space .ensures) ∙ c .if1 .left
 
--- src/lib.rt:115:13
 returns-2 : tie.Need-returns-2 Inv-loop μ-loop
 returns-2 c =
     let e = c .before .before in
     let l = e .before .before .before in
     scan-last startsSpace (l .before .before .args .s .now) (l .before .before .args .at) (l .loop .i) (l .loop .len) (l .loop .inv) (omega arith) (on e) (c .before .gained-at .result) (c .before .gained-at .ensures) (c .if2 .taken)
 
--- src/lib.rt:121:13
 add-i : tie.Need-add-i Inv-loop μ-loop
 add-i c = omega arith
 
@@ -57,21 +48,17 @@ turn c =
     let l = e .before .before .before in
     scan-turn startsSpace (l .before .before .args .s .now) (l .before .before .args .at) (l .loop .i) (l .loop .len) (l .loop .inv) (omega arith) (on e) (c .before .gained-at .result) (c .before .gained-at .ensures) (c .if2 .left)
 
--- src/lib.rt:122:9
 add-len : tie.Need-add-len Inv-loop μ-loop
 add-len c = omega (arith, turn c)
 
--- src/lib.rt:105:5
 loop-less : tie.Need-loop-less Inv-loop μ-loop
 loop-less c =
     let l = c .before .before .before .before .before in
     omega (arith, gained-from (l .before .before .args .s .now) (l .loop .i) (omega arith) (c .before .gained-at .result) (c .before .gained-at .ensures))
 
--- src/lib.rt:105:5
 loop-again : tie.Need-loop-again Inv-loop μ-loop
 loop-again c = turn c
 
--- src/lib.rt:100:1
 returns-3 : tie.Need-returns-3 Inv-loop μ-loop
 returns-3 c =
     let l = c .before in

@@ -1,3 +1,4 @@
+-- `skip_ws` meets its contract: each turn leaves the run's end where it is, and the run stops where no white space begins. Assumes nothing.
 use borrow.Author.Needs.{needs}
 use mathlib.Core.Path.{_≡_, refl, sym, _∙_}
 use Prim.Native.Nat.{_-_}
@@ -8,9 +9,6 @@ use Rattle.keyvalue.proofs.Runs.{end-stop}
 use Rattle.keyvalue.proofs.Rules.{Skip, space-more}
 use Rattle.keyvalue.proofs.skip_ws.Statement.{statement}
 use Rattle.keyvalue.proofs.skip_ws.Tie as tie
-use Rattle.keyvalue.proofs.skip_ws.Reads as reads
-use Rattle.keyvalue.proofs.skip_ws.Lts as lts
-use Rattle.keyvalue.proofs.space_len.Reads as space-len-reads
 
 abbrev Inv-loop : tie.InvT-loop
 Inv-loop s at i₀ i = endOf spaceLen s at ≡ endOf spaceLen s i
@@ -18,15 +16,12 @@ Inv-loop s at i₀ i = endOf spaceLen s at ≡ endOf spaceLen s i
 abbrev μ-loop : tie.MeasureT-loop
 μ-loop s at i₀ i = length s - i
 
--- src/lib.rt:59:5
 loop-holds : tie.Need-loop-holds Inv-loop μ-loop
 loop-holds c = refl
 
--- src/lib.rt:60:13
 space-len-requires : tie.Need-space-len-requires Inv-loop μ-loop
 space-len-requires c κs = search needs
 
--- src/lib.rt:62:13
 returns : tie.Need-returns Inv-loop μ-loop
 returns c =
     let l = c .before .before in
@@ -35,15 +30,12 @@ returns c =
 turn : (c : tie.Else1 Inv-loop μ-loop) → Skip (c .before .before .before .before .args .s .now) (c .before .before .loop .i) (c .before .space-len .result)
 turn c = space-more _ _ _ (c .before .space-len .ensures) (c .if1 .left)
 
--- src/lib.rt:64:9
 add-i : tie.Need-add-i Inv-loop μ-loop
 add-i c = omega (arith, turn c)
 
--- src/lib.rt:59:5
 loop-less : tie.Need-loop-less Inv-loop μ-loop
 loop-less c = omega (arith, turn c, c .if1 .left)
 
--- src/lib.rt:59:5
 loop-again : tie.Need-loop-again Inv-loop μ-loop
 loop-again c = c .before .before .loop .inv ∙ turn c .same
 
