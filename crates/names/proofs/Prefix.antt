@@ -13,8 +13,11 @@ use Rattle.byte.specs.Same.{standsAt}
 use Rattle.byte.proofs.Same.{stands-room}
 use Rattle.names.specs.Find.{prefixLen, startLen}
 
-by-tests : (s : List ℕ) (p q : Bool) → standsAt (bytes "postgres://") 0 s ≡ p → standsAt (bytes "postgresql://") 0 s ≡ q → (pick p 11 (pick q 13 0) ≡ 0 → ⊥)
-    → (11 ≤ pick p 11 (pick q 13 0)) × (pick p 11 (pick q 13 0) ≤ length s)
+abbrev longer : Bool → Bool → ℕ
+longer p q = pick p 11 (pick q 13 0)
+
+by-tests : (s : List ℕ) (p q : Bool) → standsAt (bytes "postgres://") 0 s ≡ p → standsAt (bytes "postgresql://") 0 s ≡ q → (longer p q ≡ 0 → ⊥)
+    → (11 ≤ longer p q) × (longer p q ≤ length s)
 by-tests s true q e f h = (omega arith, stands-room (bytes "postgres://") 0 s e)
 by-tests s false true e f h = (omega arith, stands-room (bytes "postgresql://") 0 s f)
 by-tests s false false e f h = absurd (h refl)
