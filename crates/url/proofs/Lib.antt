@@ -1,0 +1,4 @@
+pub mod Places
+pub mod Keys
+pub mod Branches
+pub mod Examples
