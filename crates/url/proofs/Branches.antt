@@ -1,9 +1,9 @@
 -- What a step's definition comes to on each way through the code, in the code's own places.
 -- Assumes nothing.
-use Prim.Native.Nat.{ℕ, suc, _+_, _-_, _≤_, _<_}
+use Prim.Native.Nat.{ℕ, _+_, _≤_, _<_, _-_}
 use mathlib.Core.Path.{_≡_, refl, ap, sym, _∙_}
 use mathlib.Core.Bool.{Bool, true, false, _&&_, _||_}
-use mathlib.Core.List.{List, []}
+use mathlib.Core.List.{List}
 use native.Mathlib.Omega.{arith}
 use native.Mathlib.Nat.{zero-add}
 use lib.Dec.{eqb, ltb}
@@ -22,11 +22,10 @@ use Rattle.url.specs.declared.Stage.{Stage}
 use Rattle.url.specs.declared.Stage.the-variants.{Password, Host, Chunk, Port, Path, Params, Parameter}
 use Rattle.url.specs.declared.Url.{Url}
 use Rattle.url.specs.declared.Found.{Found}
-use Rattle.url.specs.declared.UrlStep.{UrlStep}
 use Rattle.url.specs.declared.UrlStep.the-variants.{Given, Ended}
 use Rattle.url.specs.declared.HostPlace.{HostPlace}
-use Rattle.url.specs.Uri.{has, upTo, beyond, firstOf, hostFits, closes, endsHosts}
-use Rattle.url.specs.Step.{url, found, give, skipped, hostChecked, keyKind, valueChecked, valueStep, keyStep, parameterStep, paramsStep, databaseStep, pathStep, endsChunk, chunkEnd, behindChunk, fixedPort, portStep, place, faulty, closing, hostPlace, placedStep, chunkStep, hostStep, passwordStep, userEnd, credentialsStep, stageStep, stepAt, valueIn}
+use Rattle.url.specs.Uri.{has, beyond, firstOf, hostFits, closes, endsHosts}
+use Rattle.url.specs.Step.{url, found, give, skipped, hostChecked, keyKind, valueChecked, valueStep, keyStep, parameterStep, paramsStep, databaseStep, pathStep, chunkEnd, behindChunk, fixedPort, portStep, place, faulty, closing, hostPlace, placedStep, chunkStep, hostStep, passwordStep, userEnd, credentialsStep, stageStep, stepAt, valueIn}
 use Rattle.url.proofs.Places.{front-byte, part-front, part-shift, of-here, of-on, of-end}
 
 or-true : (t : Bool) → t || true ≡ true

@@ -1,19 +1,19 @@
 -- Worked examples of the reading of a URI behind its prefix, one table under one statement.
 -- Assumes nothing.
 use mathlib.Core.Path.{_≡_, refl}
-use mathlib.Core.Bool.{Bool, true, false, _&&_, _||_}
+use mathlib.Core.Bool.{Bool, true, false, _&&_}
 use mathlib.Core.List.{List, [], _∷_, _++_}
 use Prim.Native.Nat.{ℕ}
 use Prim.Native.String.{String}
 use lib.Dec.{eqb}
 use Rattle.byte.specs.Ascii.{bytes}
-use Rattle.byte.specs.Byte.{pick, between}
+use Rattle.byte.specs.Byte.{between}
 use Rattle.byte.specs.Digit.{digitOf}
 use Rattle.byte.specs.Same.{same}
 use Rattle.utf8.specs.Utf8.{charAt, charOf, longer, two, three, four, least, greatest, wellFrom}
 use Rattle.percent.specs.Percent.{pieceOf, pieceAt, decodedFrom, decoded}
 use Rattle.split.specs.Split.{firstAt, split}
-use Rattle.setting.specs.Setting.{Setting, keyed, oneHost, Reading}
+use Rattle.setting.specs.Setting.{Setting, keyed, oneHost}
 use Rattle.url.specs.Uri.{firstOf, text, hostFits, host, value, parameter, parametersFrom, parameters, params, dbname, database, path, port, closes, bracketed, chunk, chunks, endsHosts, hostChunks, hosts, password, credentials, uri}
 
 -- a text behind the prefix, the settings that it reads as, and the end

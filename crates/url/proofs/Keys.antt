@@ -1,12 +1,12 @@
 -- Laws of keys: what a key's number says of its bytes, and why twenty bytes are enough to look one up.
 -- Assumes nothing.
-use Prim.Native.Nat.{ℕ, suc, _+_, _-_, _≤_, _<_}
+use Prim.Native.Nat.{ℕ, _+_, _≤_, _<_, _-_}
 use mathlib.Core.Path.{_≡_, refl, ap, sym, subst, _∙_}
 use mathlib.Core.Bool.{Bool, true, false}
 use mathlib.Core.List.{List, []}
 use native.Mathlib.Omega.{arith}
 use lib.Dec.{eqb, leb}
-use lib.ListN.{length, take, drop, getD, replicate}
+use lib.ListN.{length, take, getD, replicate}
 use borrow.Author.Tests.{leb-true, leb-false, eqb-true, eqb-false}
 use Rattle.byte.specs.Ascii.{bytes}
 use Rattle.byte.specs.Byte.{pick, partOf, between}
@@ -21,6 +21,7 @@ use Rattle.names.specs.Find.{keyNumber, numberIn, among}
 use Rattle.names.proofs.Among.{Found, number-found}
 use Rattle.names.proofs.Examples.{no-empty}
 use Rattle.utf8.specs.Utf8.{wellFormed, wellFrom, charAt, charOf, longer, two, three, four, least, greatest}
+use Rattle.setting.specs.Setting.{Setting, keyed, oneHost, kindOf}
 use Rattle.url.specs.Step.{paramKind, keyKind}
 
 -- a key that has a number is the one that the number says
@@ -49,6 +50,23 @@ module _ (k : List ℕ) (h : keyNumber k ≡ 0 → ⊥) where
       let f = key-found k h in
       let l : keyNumber k - 1 < 19 = omega (arith, f .within, f .from) in
       subst (λ (w : List ℕ). wellFormed w ≡ true) (f .is) (holds-at 19 plain-key refl (keyNumber k - 1) l)
+
+-- the keys that the reading itself gives
+pub user-one : keyNumber (bytes "user") ≡ 1
+unfolding keyNumber numberIn among same
+user-one = refl
+
+pub password-two : keyNumber (bytes "password") ≡ 2
+unfolding keyNumber numberIn among same
+password-two = refl
+
+pub dbname-three : keyNumber (bytes "dbname") ≡ 3
+unfolding keyNumber numberIn among same
+dbname-three = refl
+
+pub port-ten : keyNumber (bytes "port") ≡ 10
+unfolding keyNumber numberIn among same
+port-ten = refl
 
 -- key host is number 8, and no other is
 host-eight : keyNumber (bytes "host") ≡ 8
@@ -112,3 +130,25 @@ module _ (k : List ℕ) where
 
     pub looked-up : keyNumber (partOf 0 n name) ≡ keyNumber k
     looked-up = looked (leb (length k) 20) refl
+
+-- a kind is a key's number, or 20
+pub key-most : (k : List ℕ) → keyNumber k ≤ 19
+key-most k = by (eqb (keyNumber k) 0) refl
+  where
+    by : (t : Bool) → eqb (keyNumber k) 0 ≡ t → keyNumber k ≤ 19
+    by true e = omega (arith, eqb-true (keyNumber k) 0 e)
+    by false e = let f = key-found k (eqb-false (keyNumber k) 0 e) in omega (arith, f .within)
+
+pub kind-most : (k : List ℕ) → paramKind k ≤ 20
+unfolding paramKind
+kind-most k = by (same k (bytes "host"))
+  where
+    by : (t : Bool) → pick t 20 (keyNumber k) ≤ 20
+    by true = omega arith
+    by false = omega (arith, key-most k)
+
+-- and so is every setting's
+pub setting-most : (σ : Setting) → kindOf σ ≤ 20
+unfolding kindOf
+setting-most (keyed k v) = omega (arith, key-most k)
+setting-most (oneHost v) = omega arith

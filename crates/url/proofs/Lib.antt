@@ -1,4 +1,7 @@
 pub mod Places
 pub mod Keys
 pub mod Branches
+pub mod Chunks
+pub mod Parameters
+pub mod Reading
 pub mod Examples

@@ -50,7 +50,32 @@ pub struct HostPlace {
     pub tail: usize,
 }
 
+// The port of a chunk that has none.
 const DEFAULT_PORT: [u8; 4] = *b"5432";
+
+// Kinds of settings: a key's number, and one host from a URI. A key that is not UTF-8 gives none.
+const USER: usize = 1;
+
+const PASSWORD: usize = 2;
+
+const DBNAME: usize = 3;
+
+const HOST_KEY: usize = 8;
+
+const PORT: usize = 10;
+
+const ONE_HOST: usize = 20;
+
+const NO_KEY: usize = 21;
+
+// Ends of a reading.
+const CLEAN: u8 = 0;
+
+const BRACKET: u8 = 10;
+
+const NO_EQUALS: u8 = 11;
+
+const NOT_UTF8: u8 = 12;
 
 // Reading begins behind the prefix.
 pub fn start(at: usize) -> Url
@@ -105,7 +130,7 @@ fn decode(kind: usize, from: usize, to: usize, c: percent::Checked, next: Url) -
             next,
         });
     }
-    UrlStep::Ended(12)
+    UrlStep::Ended(NOT_UTF8)
 }
 
 // "If an `@` stands anywhere in the rest": the user up to the first `:` before it.
@@ -119,27 +144,19 @@ fn parse_credentials(s: &[u8], at: usize) -> UrlStep
     let colon = at + split::find(byte::part(s, at, end), 0, b':');
     let judged = percent::check(byte::part(s, at, colon));
     if colon < end {
-        return decode(
-            1,
-            at,
-            colon,
-            judged,
-            Url {
-                stage: Stage::Password,
-                at: colon + 1,
-            },
-        );
+        let password = colon + 1;
+        let next = Url {
+            stage: Stage::Password,
+            at: password,
+        };
+        return decode(USER, at, colon, judged, next);
     }
-    decode(
-        1,
-        at,
-        colon,
-        judged,
-        Url {
-            stage: Stage::Host,
-            at: end + 1,
-        },
-    )
+    let host = end + 1;
+    let next = Url {
+        stage: Stage::Host,
+        at: host,
+    };
+    decode(USER, at, colon, judged, next)
 }
 
 // The password, which needn't be UTF-8, up to the same `@`.
@@ -153,7 +170,7 @@ fn parse_password(s: &[u8], at: usize) -> UrlStep
         at: skip(s, end),
     };
     UrlStep::Given(Found {
-        kind: 2,
+        kind: PASSWORD,
         from: at,
         to: end,
         len,
@@ -271,14 +288,14 @@ fn parse_chunk(s: &[u8], at: usize) -> UrlStep
     let c = byte::part(s, at, end);
     let p = host_place(c);
     if p.fault {
-        return UrlStep::Ended(10);
+        return UrlStep::Ended(BRACKET);
     }
     let judged = host_param(byte::part(c, p.from, p.to));
     let next = Url {
         stage: Stage::Port,
         at: at + p.tail,
     };
-    decode(20, at + p.from, at + p.to, judged, next)
+    decode(ONE_HOST, at + p.from, at + p.to, judged, next)
 }
 
 // One host's length once decoded, and whether it may stand: a Unix path may be any bytes.
@@ -301,9 +318,10 @@ fn behind_chunk(s: &[u8], at: usize) -> Url
     ensures { λ r. ⌜ r ≡ behindChunk at (drop at (now (s .entry))) ⌝ }
 {
     if byte::at(s, at) == b',' {
+        let next = at + 1;
         return Url {
             stage: Stage::Chunk,
-            at: at + 1,
+            at: next,
         };
     }
     Url {
@@ -320,7 +338,7 @@ fn parse_port(s: &[u8], at: usize) -> UrlStep
     let next = behind_chunk(s, end);
     if end <= at {
         return UrlStep::Given(Found {
-            kind: 10,
+            kind: PORT,
             from: at,
             to: at,
             len: 4,
@@ -330,7 +348,7 @@ fn parse_port(s: &[u8], at: usize) -> UrlStep
     }
     let from = at + 1;
     let judged = percent::check(byte::part(s, from, end));
-    decode(10, from, end, judged, next)
+    decode(PORT, from, end, judged, next)
 }
 
 fn parse_path(s: &[u8], at: usize) -> UrlStep
@@ -351,23 +369,18 @@ fn parse_database(s: &[u8], at: usize) -> UrlStep
         return parse_params(s, at);
     }
     let judged = percent::check(byte::part(s, at, end));
-    decode(
-        3,
-        at,
-        end,
-        judged,
-        Url {
-            stage: Stage::Params,
-            at: end,
-        },
-    )
+    let next = Url {
+        stage: Stage::Params,
+        at: end,
+    };
+    decode(DBNAME, at, end, judged, next)
 }
 
 fn parse_params(s: &[u8], at: usize) -> UrlStep
     ensures { λ r. ⌜ r ≡ paramsStep at (drop at (now (s .entry))) ⌝ }
 {
     if byte::at(s, at) != b'?' {
-        return UrlStep::Ended(0);
+        return UrlStep::Ended(CLEAN);
     }
     parse_parameter(s, at + 1)
 }
@@ -377,15 +390,15 @@ fn parse_parameter(s: &[u8], at: usize) -> UrlStep
     ensures { λ r. ⌜ r ≡ parameterStep at (drop at (now (s .entry))) ⌝ }
 {
     if s.len() <= at {
-        return UrlStep::Ended(0);
+        return UrlStep::Ended(CLEAN);
     }
     let end = split::find(s, at, b'=');
     if s.len() <= end {
-        return UrlStep::Ended(11);
+        return UrlStep::Ended(NO_EQUALS);
     }
     let kind = parse_key(byte::part(s, at, end));
-    if kind == 21 {
-        return UrlStep::Ended(12);
+    if kind == NO_KEY {
+        return UrlStep::Ended(NOT_UTF8);
     }
     parse_value(s, kind, end + 1)
 }
@@ -406,7 +419,7 @@ fn parse_value(s: &[u8], kind: usize, at: usize) -> UrlStep
 fn value_param(kind: usize, v: &[u8]) -> percent::Checked
     ensures { λ r. ⌜ r ≡ valueChecked kind (now (v .entry)) ⌝ }
 {
-    if kind == 20 {
+    if kind == ONE_HOST {
         return host_param(v);
     }
     percent::check(v)
@@ -421,7 +434,7 @@ fn parse_key(key: &[u8]) -> usize
         return kind;
     }
     let c = percent::check(key);
-    if c.utf8 { 0 } else { 21 }
+    if c.utf8 { 0 } else { NO_KEY }
 }
 
 // The kind of a setting with this key: no key is longer than 20 bytes, and one that is too long to be decoded here has no number.
@@ -431,5 +444,5 @@ fn param_kind(key: &[u8]) -> usize
     let mut name = [0u8; 20];
     let n = percent::decode(key, &mut name, 0);
     let number = names::key_number(byte::part(&name, 0, n));
-    if number == 8 { 20 } else { number }
+    if number == HOST_KEY { ONE_HOST } else { number }
 }

@@ -1,3 +1,5 @@
+-- `url::behind_chunk` meets its contract: a comma leads to the next chunk, anything else to the path.
+-- Assumes nothing.
 use mathlib.Core.Path.{refl, sym, _∙_}
 use Prim.Native.Nat.{ℕ, _<_}
 use native.Mathlib.Omega.{arith}
@@ -9,28 +11,21 @@ use Rattle.url.proofs.Branches.{chunk-next, chunk-last}
 use borrow.Author.Needs.{needs}
 use Rattle.url.proofs.behind_chunk.Statement.{statement}
 use Rattle.url.proofs.behind_chunk.Tie as tie
-use Rattle.url.proofs.behind_chunk.Reads as reads
-use Rattle.url.proofs.behind_chunk.Lts as lts
-use Rattle.byte.proofs.at.Reads as at-reads
 
--- src/lib.rt:249:8
 at-requires : tie.Need-at-requires
 at-requires c κs = search needs
 
--- src/lib.rt:250:47
-add-t6 : tie.Need-add-t6
-add-t6 c =
+add-next : tie.Need-add-next
+add-next c =
     let a = c .before .before .before .args in
     let h : a .at < length (a .s .now) = past (λ (b : ℕ). eqb b 44) refl (a .s .now) (a .at) (eq-eqb _ _ (sym (c .before .at .ensures) ∙ c .if1 .taken)) in
     omega arith
 
--- src/lib.rt:250:9
 returns : tie.Need-returns
 returns c = let a = c .before .before .before .args in sym (chunk-next (a .at) (a .s .now) (sym (c .before .at .ensures) ∙ c .if1 .taken))
 
--- src/lib.rt:246:1
 returns-2 : tie.Need-returns-2
 returns-2 c = let a = c .before .before .before .args in sym (chunk-last (a .at) (a .s .now) (λ e. c .if1 .left (c .before .at .ensures ∙ e)))
 
 pub behind-chunk-spec : {M : Type 1} → statement M
-behind-chunk-spec = tie.close (tie.spec at-requires add-t6 returns returns-2)
+behind-chunk-spec = tie.close (tie.spec at-requires add-next returns returns-2)

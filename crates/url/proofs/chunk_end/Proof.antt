@@ -1,3 +1,5 @@
+-- `url::chunk_end` meets its contract: the whole answer is what it is from here on.
+-- Assumes nothing.
 use borrow.Author.Needs.{needs}
 use Prim.Native.Nat.{_+_, _-_}
 use mathlib.Core.Path.{_≡_, refl, sym, _∙_}
@@ -8,9 +10,6 @@ use Rattle.url.specs.Step.{endsChunk}
 use Rattle.url.proofs.Places.{of-here, of-on, of-end}
 use Rattle.url.proofs.chunk_end.Statement.{statement}
 use Rattle.url.proofs.chunk_end.Tie as tie
-use Rattle.url.proofs.chunk_end.Reads as reads
-use Rattle.url.proofs.chunk_end.Lts as lts
-use Rattle.url.proofs.ends_chunk.Reads as ends-chunk-reads
 
 abbrev Inv-loop : tie.InvT-loop
 Inv-loop s at i₀ i = at + firstOf endsChunk (drop at s) ≡ i + firstOf endsChunk (drop i s)
@@ -18,39 +17,31 @@ Inv-loop s at i₀ i = at + firstOf endsChunk (drop at s) ≡ i + firstOf endsCh
 abbrev μ-loop : tie.MeasureT-loop
 μ-loop s at i₀ i = length s - i
 
--- src/lib.rt:180:5
 loop-holds : tie.Need-loop-holds Inv-loop μ-loop
 loop-holds c = refl
 
--- src/lib.rt:181:23
 shared-slice-read-ends-chunk : tie.Need-shared-slice-read-ends-chunk Inv-loop μ-loop
 shared-slice-read-ends-chunk c = omega arith
 
--- src/lib.rt:181:12
 ends-chunk-requires : tie.Need-ends-chunk-requires Inv-loop μ-loop
 ends-chunk-requires c κs = search needs
 
--- src/lib.rt:182:13
 returns : tie.Need-returns Inv-loop μ-loop
 returns c =
     let l = c .before .before .before .before in
     omega (arith, of-here endsChunk (l .before .before .args .s .now) (l .loop .i) (omega arith) (sym (c .before .ends-chunk .ensures) ∙ c .if1 .taken))
 
--- src/lib.rt:184:9
 add-i : tie.Need-add-i Inv-loop μ-loop
 add-i c = omega arith
 
--- src/lib.rt:180:5
 loop-less : tie.Need-loop-less Inv-loop μ-loop
 loop-less c = omega arith
 
--- src/lib.rt:180:5
 loop-again : tie.Need-loop-again Inv-loop μ-loop
 loop-again c =
     let l = c .before .before .before .before in
     omega (arith, of-on endsChunk (l .before .before .args .s .now) (l .loop .i) (omega arith) (sym (c .before .ends-chunk .ensures) ∙ c .if1 .left))
 
--- src/lib.rt:176:1
 returns-2 : tie.Need-returns-2 Inv-loop μ-loop
 returns-2 c =
     let l = c .before in

@@ -1,23 +1,19 @@
-use Rattle.byte.proofs.Tests.{tests}
+-- `url::closes_at` meets its contract: the chunk ends at the place, or the byte there decides.
+-- Assumes nothing.
 use lib.ListN.{drop-of-length-le}
 use lib.Seq.{drop-cons}
 use Rattle.url.specs.Uri.{closes}
 use borrow.Author.Needs.{needs}
 use Rattle.url.proofs.closes_at.Statement.{statement}
 use Rattle.url.proofs.closes_at.Tie as tie
-use Rattle.url.proofs.closes_at.Reads as reads
-use Rattle.url.proofs.closes_at.Lts as lts
 
--- src/lib.rt:194:9
 returns : tie.Need-returns
 unfolding closes
 returns c = rw (drop-of-length-le (c .before .args .c .now) (c .if1 .taken))
 
--- src/lib.rt:196:5
 shared-slice-read-result : tie.Need-shared-slice-read-result
 shared-slice-read-result c = search needs
 
--- src/lib.rt:190:1
 returns-2 : tie.Need-returns-2
 unfolding closes
 returns-2 c = rw (drop-cons (c .before .before .args .c .now) (c .before .before .args .at) 0 (c .before .if1 .left))

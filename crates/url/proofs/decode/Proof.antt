@@ -1,15 +1,13 @@
+-- `url::decode` meets its contract: the test of the code is the test of the definition.
+-- Assumes nothing.
 use Rattle.url.specs.Step.{give}
 use Rattle.url.proofs.decode.Statement.{statement}
 use Rattle.url.proofs.decode.Tie as tie
-use Rattle.url.proofs.decode.Reads as reads
-use Rattle.url.proofs.decode.Lts as lts
 
--- src/lib.rt:99:9
 returns : tie.Need-returns
 unfolding give
 returns c = rw (c .if1 .taken)
 
--- src/lib.rt:95:1
 returns-2 : tie.Need-returns-2
 unfolding give
 returns-2 c = rw (c .if1 .left)

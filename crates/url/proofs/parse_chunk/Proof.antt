@@ -1,70 +1,54 @@
+-- `url::parse_chunk` meets its contract: a fault, or the host at its place; the places fit where the text's do.
+-- Assumes nothing.
 use mathlib.Core.Path.{_∙_}
 use native.Mathlib.Omega.{arith}
 use Rattle.url.proofs.Branches.{chunk-fault, chunk-host, chunk-tail, chunk-to, chunk-from}
 use borrow.Author.Needs.{needs}
 use Rattle.url.proofs.parse_chunk.Statement.{statement}
 use Rattle.url.proofs.parse_chunk.Tie as tie
-use Rattle.url.proofs.parse_chunk.Reads as reads
-use Rattle.url.proofs.parse_chunk.Lts as lts
-use Rattle.byte.proofs.part.Reads as part-reads
-use Rattle.url.proofs.chunk_end.Reads as chunk-end-reads
-use Rattle.url.proofs.decode.Reads as decode-reads
-use Rattle.url.proofs.host_param.Reads as host-param-reads
-use Rattle.url.proofs.host_place.Reads as host-place-reads
 
--- src/lib.rt:222:9
 chunk-end-requires : tie.Need-chunk-end-requires
 chunk-end-requires c κs = search needs
 
--- src/lib.rt:223:9
 part-requires : tie.Need-part-requires
 part-requires c κs = search needs
 
--- src/lib.rt:224:9
 host-place-requires : tie.Need-host-place-requires
 host-place-requires c κs = search needs
 
--- src/lib.rt:226:9
 returns : tie.Need-returns
 returns c =
     let p = c .before .before in
     let a = p .before .before .before .args in
     chunk-fault (a .at) (a .s .now) _ (p .before .chunk-end .ensures) _ (p .part .ensures) _ (c .before .host-place .ensures) (c .if1 .taken)
 
--- src/lib.rt:228:29
 part-requires-2 : tie.Need-part-requires-2
 part-requires-2 c κs = search needs
 
--- src/lib.rt:228:9
 host-param-requires : tie.Need-host-param-requires
 host-param-requires c κs = search needs
 
--- src/lib.rt:229:46
 add-decode : tie.Need-add-decode
 add-decode c =
     let h = c .before .before .before .before in
     let a = h .before .before .before .before .args in
     omega (arith, chunk-tail (a .at) (a .s .now) _ (h .before .before .chunk-end .ensures) _ (h .before .part .ensures) _ (h .host-place .ensures))
 
--- src/lib.rt:230:16
 add-decode-2 : tie.Need-add-decode-2
 add-decode-2 c =
     let h = c .before .before .before .before .before in
     let a = h .before .before .before .before .args in
     omega (arith, chunk-tail (a .at) (a .s .now) _ (h .before .before .chunk-end .ensures) _ (h .before .part .ensures) _ (h .host-place .ensures), chunk-to (a .at) (a .s .now) _ (h .before .before .chunk-end .ensures) _ (h .before .part .ensures) _ (h .host-place .ensures), chunk-from (a .at) (a .s .now) _ (h .before .before .chunk-end .ensures) _ (h .before .part .ensures) _ (h .host-place .ensures))
 
--- src/lib.rt:230:29
 add-decode-3 : tie.Need-add-decode-3
 add-decode-3 c =
     let h = c .before .before .before .before .before .before in
     let a = h .before .before .before .before .args in
     omega (arith, chunk-tail (a .at) (a .s .now) _ (h .before .before .chunk-end .ensures) _ (h .before .part .ensures) _ (h .host-place .ensures), chunk-to (a .at) (a .s .now) _ (h .before .before .chunk-end .ensures) _ (h .before .part .ensures) _ (h .host-place .ensures))
 
--- src/lib.rt:230:5
 decode-requires : tie.Need-decode-requires
 decode-requires c κs = search needs
 
--- src/lib.rt:219:1
 returns-2 : tie.Need-returns-2
 returns-2 c =
     let v = c .before .before .before .before .before in

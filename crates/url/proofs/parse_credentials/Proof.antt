@@ -1,3 +1,5 @@
+-- `url::parse_credentials` meets its contract: no `@`, a user with a password behind it, or a user alone.
+-- Assumes nothing.
 use mathlib.Core.Path.{sym, ap, _∙_}
 use native.Mathlib.Omega.{arith}
 use lib.ListN.{length}
@@ -7,61 +9,43 @@ use Rattle.url.proofs.Branches.{no-user, user-first, user-only}
 use borrow.Author.Needs.{needs}
 use Rattle.url.proofs.parse_credentials.Statement.{statement}
 use Rattle.url.proofs.parse_credentials.Tie as tie
-use Rattle.url.proofs.parse_credentials.Reads as reads
-use Rattle.url.proofs.parse_credentials.Lts as lts
-use Rattle.byte.proofs.part.Reads as part-reads
-use Rattle.percent.proofs.check.Reads as check-reads
-use Rattle.split.proofs.find.Reads as find-reads
-use Rattle.url.proofs.decode.Reads as decode-reads
-use Rattle.url.proofs.parse_host.Reads as parse-host-reads
 
--- src/lib.rt:115:9
 find-requires : tie.Need-find-requires
 find-requires c κs = search needs
 
--- src/lib.rt:117:9
 parse-host-requires : tie.Need-parse-host-requires
 parse-host-requires c κs = search needs
 
--- src/lib.rt:117:9
 returns : tie.Need-returns
 returns c =
     let p = c .before .before in
     let a = p .before .before .args in
     c .parse-host .ensures ∙ sym (no-user (a .at) (a .s .now) _ (p .find .ensures) (c .before .if1 .taken))
 
--- src/lib.rt:119:34
 part-requires : tie.Need-part-requires
 part-requires c κs = search needs
 
--- src/lib.rt:119:22
 find-requires-2 : tie.Need-find-requires-2
 find-requires-2 c κs = search needs
 
--- src/lib.rt:119:17
 add-colon : tie.Need-add-colon
 add-colon c =
     let p = c .before in
     let a = p .before .before .before .before .args in
     omega (arith, c .find2 .ensures, first-most 58 (p .part .result .now), ap length (p .part .ensures), part-most (a .at) (p .before .before .find .result) (a .s .now))
 
--- src/lib.rt:120:33
 part-requires-2 : tie.Need-part-requires-2
 part-requires-2 c κs = search needs
 
--- src/lib.rt:120:9
 check-requires : tie.Need-check-requires
 check-requires c κs = search needs
 
--- src/lib.rt:122:79
-add-t11 : tie.Need-add-t11
-add-t11 c = search needs
+add-password : tie.Need-add-password
+add-password c = search needs
 
--- src/lib.rt:122:9
 decode-requires : tie.Need-decode-requires
 decode-requires c κs = search needs
 
--- src/lib.rt:122:9
 returns-2 : tie.Need-returns-2
 returns-2 c =
     let k = c .before .before in
@@ -71,15 +55,12 @@ returns-2 c =
     c .decode .ensures
     ∙ user-first (a .at) (a .s .now) _ (p .before .before .find .ensures) (p .before .if1 .left) _ (p .part .ensures) _ (f .find2 .ensures) _ (k .before .part2 .ensures) _ (k .check .ensures) (c .before .if2 .taken)
 
--- src/lib.rt:124:64
-add-t6 : tie.Need-add-t6
-add-t6 c = search needs
+add-host : tie.Need-add-host
+add-host c = search needs
 
--- src/lib.rt:124:5
 decode-requires-2 : tie.Need-decode-requires-2
 decode-requires-2 c κs = search needs
 
--- src/lib.rt:112:1
 returns-3 : tie.Need-returns-3
 returns-3 c =
     let k = c .before .before in
@@ -101,9 +82,9 @@ parse-credentials-spec =
     add-colon
     part-requires-2
     check-requires
-    add-t11
+    add-password
     decode-requires
     returns-2
-    add-t6
+    add-host
     decode-requires-2
     returns-3)

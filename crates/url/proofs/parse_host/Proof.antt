@@ -1,35 +1,26 @@
+-- `url::parse_host` meets its contract: no host part, or a chunk.
+-- Assumes nothing.
 use mathlib.Core.Path.{sym, _∙_}
 use Rattle.url.proofs.Branches.{host-end, host-none, host-some}
 use borrow.Author.Needs.{needs}
 use Rattle.url.proofs.parse_host.Statement.{statement}
 use Rattle.url.proofs.parse_host.Tie as tie
-use Rattle.url.proofs.parse_host.Reads as reads
-use Rattle.url.proofs.parse_host.Lts as lts
-use Rattle.url.proofs.ends_hosts.Reads as ends-hosts-reads
-use Rattle.url.proofs.parse_chunk.Reads as parse-chunk-reads
-use Rattle.url.proofs.parse_path.Reads as parse-path-reads
 
--- src/lib.rt:167:9
 parse-path-requires : tie.Need-parse-path-requires
 parse-path-requires c κs = search needs
 
--- src/lib.rt:167:9
 returns : tie.Need-returns
 returns c = let a = c .before .before .before .args in c .parse-path .ensures ∙ sym (host-end (a .at) (a .s .now) (c .before .if1 .taken))
 
--- src/lib.rt:169:19
 shared-slice-read-ends-hosts : tie.Need-shared-slice-read-ends-hosts
 shared-slice-read-ends-hosts c = search needs
 
--- src/lib.rt:169:8
 ends-hosts-requires : tie.Need-ends-hosts-requires
 ends-hosts-requires c κs = search needs
 
--- src/lib.rt:170:9
 parse-path-requires-2 : tie.Need-parse-path-requires-2
 parse-path-requires-2 c κs = search needs
 
--- src/lib.rt:170:9
 returns-2 : tie.Need-returns-2
 returns-2 c =
     let e = c .before .before in
@@ -37,11 +28,9 @@ returns-2 c =
     let a = i .before .before .args in
     c .parse-path2 .ensures ∙ sym (host-none (a .at) (a .s .now) (i .if1 .left) (sym (e .ends-hosts .ensures) ∙ c .before .if2 .taken))
 
--- src/lib.rt:172:5
 parse-chunk-requires : tie.Need-parse-chunk-requires
 parse-chunk-requires c κs = search needs
 
--- src/lib.rt:163:1
 returns-3 : tie.Need-returns-3
 returns-3 c =
     let e = c .before .before in

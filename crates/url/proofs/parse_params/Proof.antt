@@ -1,3 +1,5 @@
+-- `url::parse_params` meets its contract: the byte at the place decides.
+-- Assumes nothing.
 use mathlib.Core.Path.{refl, sym, _∙_}
 use Prim.Native.Nat.{ℕ, _<_}
 use native.Mathlib.Omega.{arith}
@@ -9,31 +11,22 @@ use Rattle.url.proofs.Branches.{params-some, params-none}
 use borrow.Author.Needs.{needs}
 use Rattle.url.proofs.parse_params.Statement.{statement}
 use Rattle.url.proofs.parse_params.Tie as tie
-use Rattle.url.proofs.parse_params.Reads as reads
-use Rattle.url.proofs.parse_params.Lts as lts
-use Rattle.byte.proofs.at.Reads as at-reads
-use Rattle.url.proofs.parse_parameter.Reads as parse-parameter-reads
 
--- src/lib.rt:293:8
 at-requires : tie.Need-at-requires
 at-requires c κs = search needs
 
--- src/lib.rt:294:9
 returns : tie.Need-returns
 returns c = let a = c .before .before .before .args in sym (params-none (a .at) (a .s .now) (λ e. c .if1 .taken (c .before .at .ensures ∙ e)))
 
--- src/lib.rt:296:24
 add-parse-parameter : tie.Need-add-parse-parameter
 add-parse-parameter c =
     let a = c .before .before .before .args in
     let h : a .at < length (a .s .now) = past (λ (b : ℕ). eqb b 63) refl (a .s .now) (a .at) (eq-eqb _ _ (sym (c .before .at .ensures) ∙ c .if1 .left)) in
     omega arith
 
--- src/lib.rt:296:5
 parse-parameter-requires : tie.Need-parse-parameter-requires
 parse-parameter-requires c κs = search needs
 
--- src/lib.rt:290:1
 returns-2 : tie.Need-returns-2
 returns-2 c =
     let p = c .before .before in

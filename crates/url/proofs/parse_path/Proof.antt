@@ -1,3 +1,5 @@
+-- `url::parse_path` meets its contract: the byte at the place decides.
+-- Assumes nothing.
 use mathlib.Core.Path.{refl, sym, _∙_}
 use Prim.Native.Nat.{ℕ, _<_}
 use native.Mathlib.Omega.{arith}
@@ -9,39 +11,28 @@ use Rattle.url.proofs.Branches.{path-slash, path-none}
 use borrow.Author.Needs.{needs}
 use Rattle.url.proofs.parse_path.Statement.{statement}
 use Rattle.url.proofs.parse_path.Tie as tie
-use Rattle.url.proofs.parse_path.Reads as reads
-use Rattle.url.proofs.parse_path.Lts as lts
-use Rattle.byte.proofs.at.Reads as at-reads
-use Rattle.url.proofs.parse_database.Reads as parse-database-reads
-use Rattle.url.proofs.parse_params.Reads as parse-params-reads
 
--- src/lib.rt:272:8
 at-requires : tie.Need-at-requires
 at-requires c κs = search needs
 
--- src/lib.rt:273:9
 parse-params-requires : tie.Need-parse-params-requires
 parse-params-requires c κs = search needs
 
--- src/lib.rt:273:9
 returns : tie.Need-returns
 returns c =
     let p = c .before .before in
     let a = p .before .before .args in
     c .parse-params .ensures ∙ sym (path-none (a .at) (a .s .now) (λ e. c .before .if1 .taken (p .at .ensures ∙ e)))
 
--- src/lib.rt:275:23
 add-parse-database : tie.Need-add-parse-database
 add-parse-database c =
     let a = c .before .before .before .args in
     let h : a .at < length (a .s .now) = past (λ (b : ℕ). eqb b 47) refl (a .s .now) (a .at) (eq-eqb _ _ (sym (c .before .at .ensures) ∙ c .if1 .left)) in
     omega arith
 
--- src/lib.rt:275:5
 parse-database-requires : tie.Need-parse-database-requires
 parse-database-requires c κs = search needs
 
--- src/lib.rt:269:1
 returns-2 : tie.Need-returns-2
 returns-2 c =
     let p = c .before .before in

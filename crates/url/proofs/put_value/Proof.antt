@@ -1,3 +1,5 @@
+-- `url::put_value` meets its contract: the fixed port, or the decoded part of the text.
+-- Assumes nothing.
 use mathlib.Core.Path.{sym, ap, _∙_}
 use Rattle.byte.specs.Put.{written, after}
 use Rattle.percent.specs.Percent.{decoded}
@@ -5,25 +7,16 @@ use Rattle.url.proofs.Branches.{value-fixed, value-part}
 use borrow.Author.Needs.{needs}
 use Rattle.url.proofs.put_value.Statement.{statement}
 use Rattle.url.proofs.put_value.Tie as tie
-use Rattle.url.proofs.put_value.Reads as reads
-use Rattle.url.proofs.put_value.Lts as lts
-use Rattle.byte.proofs.copy.Reads as copy-reads
-use Rattle.byte.proofs.part.Reads as part-reads
-use Rattle.percent.proofs.decode.Reads as decode-reads
 
--- src/lib.rt:89:27
 slice-aggregate-copy : tie.Need-slice-aggregate-copy
 slice-aggregate-copy c = search needs
 
--- src/lib.rt:89:9
 copy-requires : tie.Need-copy-requires
 copy-requires c κs = search needs
 
--- src/lib.rt:89:9
 same-length : tie.Need-same-length
 same-length c = search needs
 
--- src/lib.rt:89:9
 returns : tie.Need-returns
 returns c =
     let p = c .before .before in
@@ -32,19 +25,15 @@ returns c =
     let e = sym (value-fixed (a .s .now) (a .f) (i .if1 .taken)) in
     (p .copy .ensures .0 ∙ ap (after (a .dst .now) (a .at)) e, p .copy .ensures .1 ∙ ap (written (a .dst .now) (a .at)) e)
 
--- src/lib.rt:91:21
 part-requires : tie.Need-part-requires
 part-requires c κs = search needs
 
--- src/lib.rt:91:5
 decode-requires : tie.Need-decode-requires
 decode-requires c κs = search needs
 
--- src/lib.rt:83:1
 same-length-2 : tie.Need-same-length-2
 same-length-2 c = search needs
 
--- src/lib.rt:83:1
 returns-2 : tie.Need-returns-2
 returns-2 c =
     let p = c .before .before in
