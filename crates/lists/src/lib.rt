@@ -9,6 +9,9 @@ use address::Address;
 use address::AddressRead;
 use number::Number16;
 
+// What stands between two pieces of a value.
+const COMMA: u8 = b',';
+
 // Why a setting is refused, or that it is not.
 pub enum Fault {
     NoFault,
@@ -155,7 +158,7 @@ pub fn add_ports(p: Ports, v: &[u8]) -> MorePorts
     let mut ports = p;
     let mut at = 0;
     loop {
-        let end = split::find(v, at, 44);
+        let end = split::find(v, at, COMMA);
         let more = push_port(ports, &v[at..end]);
         let fault = more.fault;
         if !is_fine(fault) {
@@ -215,7 +218,7 @@ pub fn add_addresses(a: Addresses, v: &[u8]) -> MoreAddresses
     let mut addresses = a;
     let mut at = 0;
     loop {
-        let end = split::find(v, at, 44);
+        let end = split::find(v, at, COMMA);
         let more = push_address(addresses, &v[at..end]);
         let fault = more.fault;
         if !is_fine(fault) {
@@ -287,7 +290,7 @@ pub fn add_hosts(h: Hosts, buffer: &[u8], start: usize, end: usize) -> MoreHosts
     let mut hosts = h;
     let mut at = 0;
     loop {
-        let end = split::find(v, at, 44);
+        let end = split::find(v, at, COMMA);
         let more = push_host(hosts, &v[at..end], start + at);
         let fault = more.fault;
         if !is_fine(fault) {
