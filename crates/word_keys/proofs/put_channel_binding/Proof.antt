@@ -1,0 +1,25 @@
+use borrow.Author.Tests.{ne-eqb}
+use Rattle.apply.specs.Apply.{applied, faultOf, after}
+use borrow.Author.Needs.{needs}
+use Rattle.word_keys.proofs.put_channel_binding.Statement.{statement}
+use Rattle.word_keys.proofs.put_channel_binding.Tie as tie
+
+word-number-requires : tie.Need-word-number-requires
+word-number-requires c κs = search needs
+
+returns : tie.Need-returns
+unfolding applied faultOf after
+returns c start = rw (← c .before .word-number .ensures, c .if1 .taken)
+
+word-of-channel-binding-requires : tie.Need-word-of-channel-binding-requires
+word-of-channel-binding-requires c κs = search needs
+
+returns-2 : tie.Need-returns-2
+unfolding applied faultOf after
+returns-2 c start =
+    let n = c .before .before in
+    rw (← n .word-number .ensures, ne-eqb (n .word-number .result) 0 (c .before .if1 .left), c .word-of-channel-binding .ensures)
+
+pub put-channel-binding-spec : {M : Type 1} → statement M
+put-channel-binding-spec =
+    tie.close (tie.spec word-number-requires returns word-of-channel-binding-requires returns-2)
