@@ -1,0 +1,51 @@
+use mathlib.Core.Path.{sym, _∙_}
+use borrow.Author.Tests.{eq-eqb, ne-eqb}
+use Rattle.apply.specs.Apply.{applied, faultOf, after}
+use borrow.Author.Needs.{needs}
+use Rattle.number_keys.proofs.put_keepalives_idle.Statement.{statement}
+use Rattle.number_keys.proofs.put_keepalives_idle.Tie as tie
+
+read-seconds-requires : tie.Need-read-seconds-requires
+read-seconds-requires c κs = search needs
+
+enum-known-n : tie.Need-enum-known-n
+enum-known-n c = search needs
+
+returns : tie.Need-returns
+unfolding applied faultOf after
+returns c start =
+    let n = c .before .before in
+    rw (sym (n .before .before .read-seconds .ensures) ∙ n .n .given .1, eq-eqb (n .n .given .0 .0) 0 (c .if1 .taken))
+
+enum-told : tie.Need-enum-told
+enum-told c = search needs
+
+enum-told-2 : tie.Need-enum-told-2
+enum-told-2 c = search needs
+
+returns-2 : tie.Need-returns-2
+unfolding applied faultOf after
+returns-2 c start =
+    let n = c .before .before in
+    rw (sym (n .before .before .read-seconds .ensures) ∙ n .n .given .1, ne-eqb (n .n .given .0 .0) 0 (c .if1 .left))
+
+returns-3 : tie.Need-returns-3
+unfolding applied faultOf after
+returns-3 c start = rw (sym (c .before .before .read-seconds .ensures) ∙ c .enum-told .given .1)
+
+returns-4 : tie.Need-returns-4
+unfolding applied faultOf after
+returns-4 c start = rw (sym (c .before .before .read-seconds .ensures) ∙ c .enum-told2 .given .1)
+
+pub put-keepalives-idle-spec : {M : Type 1} → statement M
+put-keepalives-idle-spec =
+    tie.close
+    (tie.spec
+    read-seconds-requires
+    enum-known-n
+    returns
+    enum-told
+    enum-told-2
+    returns-2
+    returns-3
+    returns-4)
