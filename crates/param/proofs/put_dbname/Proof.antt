@@ -1,0 +1,14 @@
+use Rattle.apply.specs.Apply.{applied, faultOf, after}
+use borrow.Author.Needs.{needs}
+use Rattle.param.proofs.put_dbname.Statement.{statement}
+use Rattle.param.proofs.put_dbname.Tie as tie
+
+text-at-requires : tie.Need-text-at-requires
+text-at-requires c κs = search needs
+
+returns : tie.Need-returns
+unfolding applied faultOf after
+returns c = rw (c .text-at .ensures)
+
+pub put-dbname-spec : {M : Type 1} → statement M
+put-dbname-spec = tie.close (tie.spec text-at-requires returns)
