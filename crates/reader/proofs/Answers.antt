@@ -1,0 +1,108 @@
+-- How the reader begins and ends: the tests before the first setting, the first state, and the answer once a turn has stopped.
+-- Assumes nothing.
+use Prim.Native.Nat.{ℕ, zero, suc, _+_, _-_, _*_, _≤_, _<_}
+use mathlib.Core.Path.{_≡_, refl, sym, ap, subst, _∙_}
+use mathlib.Core.Bool.{Bool, true, false}
+use mathlib.Core.List.{List, [], _∷_, _++_}
+use native.Mathlib.Omega.{arith}
+use native.Mathlib.Nat.{sub-zero}
+use lib.Dec.{eqb, ltb}
+use lib.ListN.{length, drop, replicate}
+use borrow.Author.Tests.{lt-ltb, le-ltb, ltb-true, ltb-false, eq-eqb, ne-eqb}
+use Rattle.byte.specs.Byte.{pick}
+use Rattle.byte.specs.Put.{put, written}
+use Rattle.utf8.specs.Utf8.{wellFormed}
+use Rattle.names.specs.Find.{prefixLen}
+use Rattle.names.proofs.Prefix.{prefix-long}
+use Rattle.setting.specs.Setting.{Reading}
+use Rattle.keyvalue.specs.KeyValue.{keyValue}
+use Rattle.url.specs.declared.Stage.{Stage}
+use Rattle.url.specs.Step.{url}
+use Rattle.url.specs.Uri.{uri}
+use Rattle.url.proofs.Reading.{reading-start, left-start}
+use Rattle.config.specs.Config.{defaults}
+use Rattle.reader.specs.declared.Answer.{Answer}
+use Rattle.reader.specs.declared.Turn.{Turn}
+use Rattle.reader.specs.Reader.{reading, refusal, Outcome, refused, accepted, outcome, outcomeOf, answer, filled, left}
+use Rattle.reader.specs.Steps.{firstState, finishOf, finishLeaves}
+use Rattle.reader.proofs.Packing.{Packed, packed-none, zeros-behind, zeros-all}
+use Rattle.reader.proofs.Next.{from, measure, slack}
+use Rattle.reader.proofs.Going.{Going, Stopped}
+
+-- the four ways that a text goes
+module _ (s d : List ℕ) where
+  pub too-long : 4096 < length s → (refusal 1 0 0 ≡ answer s (length d)) × (d ≡ left s d)
+  unfolding answer left
+  too-long h = (rw (lt-ltb _ _ h), rw (lt-ltb _ _ h))
+
+  pub no-room : length s ≤ 4096 → length d < length s → (refusal 2 0 0 ≡ answer s (length d)) × (d ≡ left s d)
+  unfolding answer left
+  no-room a h = (rw (le-ltb 4096 (length s) a, lt-ltb _ _ h), rw (le-ltb 4096 (length s) a, lt-ltb _ _ h))
+
+  module _ (a : length s ≤ 4096) (b : length s ≤ length d) where
+    pub not-utf8 : wellFormed s ≡ false → (refusal 3 0 0 ≡ answer s (length d)) × (written d 0 (replicate (length s) 0) ≡ left s d)
+    unfolding answer left filled
+    not-utf8 e = (
+      rw (le-ltb 4096 (length s) a, le-ltb (length d) (length s) b, e),
+      zeros-all (length s) d [] d (packed-none (length s) d) b ∙ sym (rw (le-ltb 4096 (length s) a, le-ltb (length d) (length s) b, e, sub-zero)),
+    )
+
+    pub answered : wellFormed s ≡ true → (outcomeOf s .answer ≡ answer s (length d)) × (filled s (outcomeOf s .packed) d ≡ left s d)
+    unfolding answer left
+    answered e = (rw (le-ltb 4096 (length s) a, le-ltb (length d) (length s) b, e), rw (le-ltb 4096 (length s) a, le-ltb (length d) (length s) b, e))
+
+-- before the first setting
+module _ (s d : List ℕ) (a : length s ≤ 4096) where
+  begin-uri : (p : ℕ) → p ≡ prefixLen s → (p ≡ 0 → ⊥) → Going s d true 8194 d (firstState p) 0
+  unfolding outcomeOf reading from slack measure
+  begin-uri p e h =
+      let k : prefixLen s ≡ 0 → ⊥ = λ z. h (e ∙ z) in
+      let l = prefix-long s k in
+      record {
+        bytes = [];
+        long = refl;
+        packed = packed-none (length s) d;
+        low = omega (arith, l .0, e);
+        at = omega (arith, l .1, e);
+        comes =
+            rw (ne-eqb (prefixLen s) 0 k, reading-start s p)
+            (ap (λ (n : ℕ). outcome defaults [] 0 (uri (drop n s) .settings) (uri (drop n s) .end)) (sym e));
+        counted = omega (arith, left-start s p);
+      }
+
+  begin-pairs : (p : ℕ) → p ≡ prefixLen s → p ≡ 0 → Going s d false 8194 d (firstState p) 0
+  unfolding outcomeOf reading from slack measure
+  begin-pairs p e h =
+      record {
+        bytes = [];
+        long = refl;
+        packed = packed-none (length s) d;
+        low = omega arith;
+        at = omega arith;
+        comes = rw (eq-eqb (prefixLen s) 0 (sym e ∙ h), h);
+        counted = omega arith;
+      }
+
+  pub begin : (p : ℕ) → p ≡ prefixLen s → (t : Bool) → t ≡ ltb 0 p → Going s d t 8194 d (firstState p) 0
+  begin p e true q = begin-uri p e (λ z. let h : 0 < p = ltb-true 0 p (sym q) in absurd (omega arith))
+  begin p e false q = begin-pairs p e (omega (arith, ltb-false 0 p (sym q)))
+
+-- once a turn has stopped
+module _ (s d₀ d : List ℕ) (t : Turn) (n : ℕ) (x : Stopped s d₀ d t n) (b : length s ≤ length d₀) where
+  ended-by : (k : Bool) → outcomeOf s ≡ pick k (accepted n (t .state .config) (x .bytes)) (refused (t .number) (t .key) n)
+      → (pick k (record { number = 0; key = 0; count = n; config = t .state .config }) (refusal (t .number) (t .key) n) ≡ outcomeOf s .answer)
+      × (pick k (written d (t .state .packed) (replicate (length s - t .state .packed) 0)) (written d 0 (replicate (length s) 0)) ≡ filled s (outcomeOf s .packed) d₀)
+  unfolding filled
+  ended-by true e = (
+    ap (λ (o : Outcome). o .answer) (sym e),
+    rw (← (x .long)) (zeros-behind (length s) d₀ (x .bytes) d (x .packed) b (x .low)) ∙ ap (λ (o : Outcome). put d₀ 0 (o .packed ++ replicate (length s - length (o .packed)) 0)) (sym e),
+  )
+  ended-by false e = (
+    ap (λ (o : Outcome). o .answer) (sym e),
+    zeros-all (length s) d₀ (x .bytes) d (x .packed) b ∙ ap (λ (k : ℕ). put d₀ 0 (replicate k 0)) (sym (sub-zero (length s)))
+        ∙ ap (λ (o : Outcome). put d₀ 0 (o .packed ++ replicate (length s - length (o .packed)) 0)) (sym e),
+  )
+
+  pub finished : (finishOf t n ≡ outcomeOf s .answer) × (finishLeaves d (length s) t ≡ filled s (outcomeOf s .packed) d₀)
+  unfolding finishLeaves
+  finished = ended-by (eqb (t .number) 0) (x .comes)
