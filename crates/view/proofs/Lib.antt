@@ -1,0 +1,5 @@
+pub mod Append
+pub mod Places
+pub mod Seen
+pub mod Hidden
+pub mod Examples
