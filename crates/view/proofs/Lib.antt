@@ -3,3 +3,4 @@ pub mod Places
 pub mod Seen
 pub mod Hidden
 pub mod Examples
+pub mod Told

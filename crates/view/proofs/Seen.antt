@@ -73,7 +73,7 @@ use Rattle.apply.specs.Apply.{
 }
 use Rattle.view.specs.Given.{listRefused, entriesOf, hostValue, hostPieces, oneHostPiece, addressPieces, portPieces, timeGiven, retriesGiven, refused, given}
 use Rattle.view.proofs.Append.{Room, entries, Grown, count-entries, append-fault, append-entries, append-one, pieces-anywhere, seenAs, refused-seen, entries-seen}
-use Rattle.view.proofs.Places.{Laid, laid-whole, laid-pieces, text-grows, text-seen, text-in, hosts-grow, hosts-shown, hosts-in, all-on, all-append}
+use Rattle.view.proofs.Places.{Laid, laid-whole, laid-pieces, text-on, text-grows, text-seen, text-in, hosts-grow, hosts-shown, hosts-in, all-on, all-append}
 
 -- a record whose lists have sixteen places with at most sixteen counted, and whose set texts and counted hosts lie in the first n bytes
 pub record In (n : ℕ) (c : Config) : Type 0 where
@@ -101,6 +101,22 @@ defaults-in =
       hosts = record { places = refl; counted = omega arith };
       addresses = record { places = refl; counted = omega arith };
       ports = record { places = refl; counted = omega arith };
+    }
+
+-- what lies in n bytes lies in more
+pub in-on : (n m : ℕ) (c : Config) → n ≤ m → In n c → In m c
+unfolding hostsIn
+in-on n m c l h =
+    record {
+      user = text-on n m l (c .user) (h .user);
+      password = text-on n m l (c .password) (h .password);
+      dbname = text-on n m l (c .dbname) (h .dbname);
+      options = text-on n m l (c .options) (h .options);
+      «application_name» = text-on n m l (c .«application_name») (h .«application_name»);
+      host = all-on n m l (take (c .host .count) (c .host .list)) (h .host);
+      hosts = h .hosts;
+      addresses = h .addresses;
+      ports = h .ports;
     }
 
 -- such a record is sound for a buffer of n bytes: a report takes it
