@@ -1,1 +1,4 @@
 pub mod Table
+pub mod Shows
+pub mod Blind
+pub mod Passwords
