@@ -77,6 +77,14 @@ accepts t count c packed = record { text = t; gives = record { answers = record 
 abbrev pub refuses : String → ℕ → ℕ → ℕ → Row
 refuses t number key count = record { text = t; gives = record { answers = record { number = number; key = key; count = count; config = defaults }; leaves = buffer t "" } }
 
+-- 01's worked example: two hosts, a password with a space, and a port list that ends with a comma
+abbrev pub worked : String
+worked = "host=db1,/run/pg user=ann password='a b' port=6000,"
+
+-- "So a bad first setting wins over broken syntax behind it."
+abbrev pub brokenBehind : Row
+brokenBehind = refuses "port=x user" 5 10 0
+
 abbrev pub table : List Row
 table =
     accepts "" 0 defaults "" ∷

@@ -86,7 +86,7 @@ unfoldable pub closes : List ℕ → Bool
 closes [] = true
 closes (a ∷ s) = eqb a 58
 
--- "In `[`..`]` the host is what is between", and "a bracket fault (10) ends the reading before its chunk gives or decodes anything":
+-- "In `[`..`]` the host is what is between", and "A bracket fault (10) ends the reading before its chunk gives or decodes anything":
 -- "bracketed URI host without `]`, or with something but `:` after it"
 unfoldable pub bracketed : List ℕ → Reading → Reading
 bracketed c r = pick (has 93 c && closes (beyond 93 c)) (host (upTo 93 c) (port (beyond 93 c) r)) (ends 10)
