@@ -1,13 +1,13 @@
 -- What the reader answers, seen through what is shown: it is what 01's reading tells.
 -- Assumes nothing.
-use Prim.Native.Nat.{ℕ, _+_, _-_, _≤_, _<_}
+use Prim.Native.Nat.{ℕ, _+_, _-_, _≤_}
 use mathlib.Core.Path.{_≡_, refl, sym, ap, subst, _∙_}
 use mathlib.Core.Bool.{Bool, true, false, _||_}
 use mathlib.Core.List.{List, [], _∷_, _++_, append-assoc}
 use native.Mathlib.Omega.{arith}
 use borrow.Author.Tests.{eq-eqb, ltb-true, ltb-false}
 use lib.Dec.{eqb, ltb}
-use lib.ListN.{length, take, drop, replicate, length-append}
+use lib.ListN.{length, drop, replicate, length-append}
 use Rattle.byte.specs.Byte.{pick, between}
 use Rattle.byte.specs.Put.{put}
 use Rattle.byte.proofs.Laws.{in-between}
@@ -20,9 +20,9 @@ use Rattle.config.specs.Config.{defaults}
 use Rattle.config.specs.Values.{shown}
 use Rattle.config.specs.Sound.{sound}
 use Rattle.apply.specs.declared.Applied.{Applied}
-use Rattle.apply.specs.Apply.{faultOf, after, applied}
+use Rattle.apply.specs.Apply.{after, applied}
 use Rattle.apply.proofs.Laws.{applied-fault, applied-fine}
-use Rattle.view.specs.Given.{refused as refusedBy, given, Told, plain, tellEnd, tellRefusal, told}
+use Rattle.view.specs.Given.{refused as refusedBy, given, Told, plain, tellRefusal, told}
 use Rattle.view.proofs.Seen.{In, defaults-in, in-on, in-sound, shown-grows, Packs, seen-fault, seen, still-in}
 use Rattle.view.proofs.Told.{told-end, told-on, told-off}
 use Rattle.reader.specs.declared.Answer.{Answer}

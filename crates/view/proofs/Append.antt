@@ -8,12 +8,12 @@ use native.Mathlib.Omega.{arith}
 use native.Mathlib.Numerals.{add-one}
 use borrow.Author.Tests.{ltb-true}
 use lib.Dec.{ltb}
-use lib.ListN.{length, take, set, length-set}
+use lib.ListN.{length, take, length-set}
 use lib.Seq.{take-suc-set, length-take-le}
 use Rattle.byte.specs.Byte.{pick}
 use Rattle.lists.specs.declared.Fault.{Fault}
 use Rattle.lists.specs.Fault.{isFine}
-use Rattle.lists.specs.Append.{Piece, good, bad, Slots, More, more, pushed, kept, append, appendFrom, piecesFrom}
+use Rattle.lists.specs.Append.{Piece, good, bad, Slots, More, more, pushed, append, appendFrom, piecesFrom}
 use Rattle.lists.proofs.Faults.{fine-none}
 use Rattle.view.specs.Given.{listRefused, entriesOf}
 

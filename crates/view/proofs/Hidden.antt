@@ -8,11 +8,10 @@ use mathlib.Core.Option.{Option, some, none}
 use borrow.Author.Tests.{eqb-true}
 use lib.Dec.{eqb}
 use Rattle.byte.specs.Byte.{pick}
-use Rattle.lists.specs.declared.Fault.{Fault}
-use Rattle.lists.specs.Fault.{isFine, numberOf, keyOf}
+use Rattle.lists.specs.Fault.{isFine}
 use Rattle.config.specs.Values.{Values}
 use Rattle.setting.specs.Setting.{Setting, keyed, oneHost, kindOf, valueOf}
-use Rattle.view.specs.Given.{given, refused, Told, tellEnd, tellRefusal, told}
+use Rattle.view.specs.Given.{given, refused, Told, tellRefusal, told}
 use Rattle.view.specs.Hidden.{onlySet, hidden, hiddenTold, veilValue, veil}
 
 only-twice : (o : Option (List ℕ)) → onlySet (onlySet o) ≡ onlySet o

@@ -1,15 +1,15 @@
 -- What stands at a place of the buffer: bytes behind change nothing, and what is packed behind is shown as it is.
 -- Assumes nothing.
 use Prim.{Unit}
-use Prim.Native.Nat.{ℕ, suc, _+_, _-_, _≤_, _<_}
+use Prim.Native.Nat.{ℕ, suc, _+_, _-_, _≤_}
 use mathlib.Core.Path.{_≡_, refl, sym, ap, subst, _∙_}
-use mathlib.Core.Bool.{Bool, true, false, _&&_}
+use mathlib.Core.Bool.{Bool, true, false}
 use mathlib.Core.List.{List, [], _∷_, _++_, map, append-nil}
-use mathlib.Core.Option.{Option, some, none}
+use mathlib.Core.Option.{some, none}
 use native.Mathlib.Omega.{arith}
 use borrow.Author.Tests.{leb-true, le-leb}
 use lib.Dec.{eqb, leb}
-use lib.ListN.{length, take, drop, getD, length-drop, length-append}
+use lib.ListN.{length, drop, getD, length-drop, length-append}
 use lib.Seq.{take-append-le, drop-append-le, drop-append-seam, drop-drop, take-length}
 use Rattle.byte.specs.Byte.{pick}
 use Rattle.byte.proofs.Laws.{and-left, and-right, and-true}
@@ -17,10 +17,10 @@ use Rattle.split.specs.Split.{onto, split}
 use Rattle.lists.specs.declared.Place.{Place}
 use Rattle.lists.specs.declared.HostKind.{HostKind}
 use Rattle.lists.specs.declared.Host.{Host}
-use Rattle.lists.specs.Append.{Piece, good, bad, piecesFrom}
+use Rattle.lists.specs.Append.{good, piecesFrom}
 use Rattle.lists.specs.Lists.{hostOf, hostPiece}
 use Rattle.config.specs.declared.Text.{Text}
-use Rattle.config.specs.Values.{HostValue, tcp, unix, placeShown, textShown, kindShown, hostShown}
+use Rattle.config.specs.Values.{tcp, unix, placeShown, textShown, kindShown, hostShown}
 use Rattle.config.specs.Sound.{placeIn, textIn, kindIn, allIn}
 use Rattle.apply.specs.Apply.{text}
 use Rattle.view.specs.Given.{entriesOf, hostValue}

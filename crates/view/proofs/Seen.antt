@@ -4,13 +4,12 @@ use Prim.Native.Nat.{ℕ, _+_, _-_, _^_, _≤_}
 use mathlib.Core.Path.{_≡_, refl, sym, ap, subst, _∙_}
 use mathlib.Core.Bool.{Bool, true, false}
 use mathlib.Core.List.{List, [], _∷_, _++_, map, map-append}
-use mathlib.Core.Option.{Option, some, none}
+use mathlib.Core.Option.{some, none}
 use native.Mathlib.Omega.{arith}
 use borrow.Author.Tests.{eqb-true, le-leb}
 use lib.Dec.{eqb}
 use lib.ListN.{length, take, getD, length-append, length-map}
 use Rattle.byte.specs.Byte.{pick}
-use Rattle.byte.proofs.Laws.{and-true}
 use Rattle.names.specs.Find.{wordNumber}
 use Rattle.number.specs.declared.Number.{Number}
 use Rattle.number.specs.Number.{unsignedOf}
@@ -25,23 +24,8 @@ use Rattle.lists.specs.declared.MoreHosts.{MoreHosts}
 use Rattle.lists.specs.declared.MoreAddresses.{MoreAddresses}
 use Rattle.lists.specs.declared.MorePorts.{MorePorts}
 use Rattle.lists.specs.Fault.{isFine}
-use Rattle.lists.specs.Append.{Piece, good, bad, Slots, More, more, appendAll, appendFrom, piecesFrom, listed}
-use Rattle.lists.specs.Lists.{
-  portSlots,
-  morePorts,
-  addressSlots,
-  moreAddresses,
-  hostSlots,
-  moreHosts,
-  portPiece,
-  addressPiece,
-  hostPiece,
-  hostPushed,
-  portsAfter,
-  addressesAfter,
-  hostsAfter,
-  hostAfter,
-}
+use Rattle.lists.specs.Append.{Piece, good, Slots, more, appendAll, piecesFrom, listed}
+use Rattle.lists.specs.Lists.{portSlots, morePorts, addressSlots, moreAddresses, hostSlots, moreHosts, portPiece, addressPiece, hostPiece, hostPushed, portsAfter, addressesAfter, hostsAfter, hostAfter}
 use Rattle.config.specs.declared.Seconds.{Seconds}
 use Rattle.config.specs.declared.Retries.{Retries}
 use Rattle.config.specs.declared.SslModeWord.{SslModeWord}
@@ -51,28 +35,11 @@ use Rattle.config.specs.declared.ChannelBindingWord.{ChannelBindingWord}
 use Rattle.config.specs.declared.LoadBalanceHostsWord.{LoadBalanceHostsWord}
 use Rattle.config.specs.declared.Config.{Config}
 use Rattle.config.specs.Config.{defaults}
-use Rattle.config.specs.Values.{Values, HostValue, hostShown, hostsShown, addressesShown, portsShown, secondsShown, retriesShown, shown}
+use Rattle.config.specs.Values.{HostValue, hostShown, hostsShown, addressesShown, portsShown, secondsShown, retriesShown, shown}
 use Rattle.config.specs.Sound.{counted, textIn, allIn, hostsIn, sound}
-use Rattle.apply.specs.Apply.{
-  sslModeOf,
-  sslNegotiationOf,
-  targetSessionAttrsOf,
-  channelBindingOf,
-  loadBalanceHostsOf,
-  wordFault,
-  numberFault,
-  secondsIn,
-  timeOf,
-  timeAfter,
-  retriesAfter,
-  idleAfter,
-  keepalivesAfter,
-  faults,
-  faultOf,
-  after,
-}
+use Rattle.apply.specs.Apply.{sslModeOf, sslNegotiationOf, targetSessionAttrsOf, channelBindingOf, loadBalanceHostsOf, wordFault, numberFault, secondsIn, timeAfter, retriesAfter, idleAfter, keepalivesAfter, faults, faultOf, after}
 use Rattle.view.specs.Given.{listRefused, entriesOf, hostValue, hostPieces, oneHostPiece, addressPieces, portPieces, timeGiven, retriesGiven, refused, given}
-use Rattle.view.proofs.Append.{Room, entries, Grown, count-entries, append-fault, append-entries, append-one, pieces-anywhere, seenAs, refused-seen, entries-seen}
+use Rattle.view.proofs.Append.{Room, entries, Grown, count-entries, append-fault, append-entries, append-one, pieces-anywhere, refused-seen, entries-seen}
 use Rattle.view.proofs.Places.{Laid, laid-whole, laid-pieces, text-on, text-grows, text-seen, text-in, hosts-grow, hosts-shown, hosts-in, all-on, all-append}
 
 -- a record whose lists have sixteen places with at most sixteen counted, and whose set texts and counted hosts lie in the first n bytes

@@ -1,9 +1,8 @@
 -- One setting on what is shown: whether its value is refused, and what is shown then. No place stands here.
 -- Assumes nothing.
 use Prim.Native.Nat.{ℕ, _+_, _-_, _^_}
-use mathlib.Core.Bool.{Bool, true, false}
 use mathlib.Core.List.{List, [], _∷_, _++_, map}
-use mathlib.Core.Option.{Option, some, none}
+use mathlib.Core.Option.{Option, some}
 use lib.Dec.{eqb, ltb}
 use lib.ListN.{length, getD}
 use Rattle.byte.specs.Byte.{pick}
@@ -19,18 +18,7 @@ use Rattle.lists.specs.Lists.{portPiece, addressPiece}
 use Rattle.config.specs.Config.{defaults}
 use Rattle.config.specs.Values.{Values, HostValue, tcp, unix, shown}
 use Rattle.setting.specs.Setting.{Setting, kindOf, valueOf}
-use Rattle.apply.specs.Apply.{
-  sslModeOf,
-  sslNegotiationOf,
-  targetSessionAttrsOf,
-  channelBindingOf,
-  loadBalanceHostsOf,
-  wordFault,
-  numberFault,
-  secondsIn,
-  idleAfter,
-  keepalivesAfter,
-}
+use Rattle.apply.specs.Apply.{sslModeOf, sslNegotiationOf, targetSessionAttrsOf, channelBindingOf, loadBalanceHostsOf, wordFault, numberFault, secondsIn, idleAfter, keepalivesAfter}
 
 -- "These three split at commas, pieces left to right; a piece's form and range are judged before room for it": the first fault, where n entries stand already
 unfoldable pub listRefused : {A : Type 0} → Fault → ℕ → List (Piece A) → Fault
