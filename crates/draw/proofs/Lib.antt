@@ -1,0 +1,4 @@
+pub mod Parts
+pub mod Drawing
+pub mod Escape
+pub mod Whole

@@ -1,0 +1,20 @@
+use borrow.Author.Tests.{not-true, not-false}
+use Rattle.fields.proofs.Steps.{unset-drawn, set-drawn}
+use borrow.Author.Needs.{needs}
+use Rattle.fields.proofs.put_seconds.Statement.{statement}
+use Rattle.fields.proofs.put_seconds.Tie as tie
+
+returns : tie.Need-returns
+returns c = let a = c .before .before .before .args in unset-drawn (a .key) _ (a .s .set) _ (a .s .seconds) (not-true _ (c .if1 .taken))
+
+number-line-requires : tie.Need-number-line-requires
+number-line-requires c κs = search needs
+
+same-length : tie.Need-same-length
+same-length c = search needs
+
+returns-2 : tie.Need-returns-2
+returns-2 c = let p = c .before .before in let a = p .before .before .before .before .before .args in set-drawn (a .key) _ (a .s .set) _ (a .s .seconds) _ (not-false _ (p .before .before .if1 .left)) (p .number-line .ensures)
+
+pub put-seconds-spec : {M : Type 1} → statement M
+put-seconds-spec = tie.close (tie.spec returns number-line-requires same-length returns-2)
