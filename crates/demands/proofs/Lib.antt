@@ -1,4 +1,13 @@
 pub mod Table
+pub mod Kept
+pub mod Applying
+pub mod Reasons
+pub mod Ends
+pub mod Answering
+pub mod Numbers
+pub mod Buffer
+pub mod Refused
+pub mod Fits
 pub mod Shows
 pub mod Blind
 pub mod Passwords

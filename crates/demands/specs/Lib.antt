@@ -1,2 +1,4 @@
 pub mod Table
+pub mod Giving
+pub mod Leaving
 pub mod Blind

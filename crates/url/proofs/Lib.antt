@@ -4,4 +4,5 @@ pub mod Branches
 pub mod Chunks
 pub mod Parameters
 pub mod Reading
+pub mod Ends
 pub mod Examples
