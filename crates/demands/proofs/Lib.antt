@@ -11,3 +11,4 @@ pub mod Fits
 pub mod Shows
 pub mod Blind
 pub mod Passwords
+pub mod Commas

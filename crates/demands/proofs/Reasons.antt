@@ -102,6 +102,19 @@ port-piece at w = by (eqb (length w) 0) (unsignedOf 65535 w)
     by false Number.Form = five 10 (omega arith) (omega arith) Fault.Form refl
     by false Number.Range = five 10 (omega arith) (omega arith) Fault.Range refl
 
+-- faults of kinds that are counted from k on
+infixr 5 _⊗_
+data Each : ℕ → List Fault → Type 0 where
+  done : {k : ℕ} → Each k []
+  _⊗_ : {k : ℕ} {f : Fault} {fs : List Fault} → Given k f → Each (suc k) fs → Each k (f ∷ fs)
+
+look : {k : ℕ} {fs : List Fault} → Each k fs → (i : ℕ) → i < length fs → Given (k + i) (getD fs i Fault.UnknownKey)
+look done i l = absurd (omega arith)
+look {k} (_⊗_ {f = f} e es) zero l = subst (λ (n : ℕ). Given n f) (sym (add-zero k)) e
+look {k} (_⊗_ {fs = fs} e es) (suc i) l =
+    let m : suc k + i ≡ k + suc i = omega arith in
+    subst (λ (n : ℕ). Given n (getD fs i Fault.UnknownKey)) m (look es i (omega arith))
+
 module _ (v : List ℕ) (start : ℕ) (c : Config) where
   hosts-fault : Given 8 (hostsAfter (c .host) start v .fault)
   unfolding hostsAfter
@@ -121,85 +134,36 @@ module _ (v : List ℕ) (start : ℕ) (c : Config) where
   ports-fault = listed-fault (Given 10) Fault.ManyPorts (fine 10) (λ _. ports) (λ (at : ℕ). portPiece) port-piece (portSlots (c .port)) v 0 (portSlots (c .port))
 
   -- an entry for each kind
-  abbrev Each : ℕ → List Fault → Type 0
-  Each k [] = Unit
-  Each k (f ∷ fs) = Given k f × Each (suc k) fs
-
-  look : (fs : List Fault) (k i : ℕ) → Each k fs → i < length fs → Given (k + i) (getD fs i Fault.UnknownKey)
-  look [] k i e l = absurd (omega arith)
-  look (f ∷ fs) k zero e l = subst (λ (n : ℕ). Given n f) (sym (add-zero k)) (e .0)
-  look (f ∷ fs) k (suc i) e l =
-      let m : suc k + i ≡ k + suc i = omega arith in
-      subst (λ (n : ℕ). Given n (getD fs i Fault.UnknownKey)) m (look fs (suc k) i (e .1) (omega arith))
-
   each : Each 0 (faults v start c)
-  each = (
-    λ _. unknown-key,
-    (
-      fine 1,
-      (
-        fine 2,
-        (
-          fine 3,
-          (
-            fine 4,
-            (
-              fine 5,
-              (
-                word-fault 6 (omega arith) (omega arith) (wordNumber 6 v),
-                (
-                  word-fault 7 (omega arith) (omega arith) (wordNumber 7 v),
-                  (
-                    hosts-fault,
-                    (
-                      addresses-fault,
-                      (
-                        ports-fault,
-                        (
-                          number-fault 11 (omega arith) (omega arith) (secondsIn v),
-                          (
-                            number-fault 12 (omega arith) (omega arith) (secondsIn v),
-                            (
-                              number-fault 13 (omega arith) (omega arith) (unsignedOf (2 ^ 64 - 1) v),
-                              (
-                                number-fault 14 (omega arith) (omega arith) (secondsIn v),
-                                (
-                                  number-fault 15 (omega arith) (omega arith) (secondsIn v),
-                                  (
-                                    number-fault 16 (omega arith) (omega arith) (unsignedOf (2 ^ 32 - 1) v),
-                                    (
-                                      word-fault 17 (omega arith) (omega arith) (wordNumber 17 v),
-                                      (
-                                        word-fault 18 (omega arith) (omega arith) (wordNumber 18 v),
-                                        (
-                                          word-fault 19 (omega arith) (omega arith) (wordNumber 19 v),
-                                          (host-fault, tt),
-                                        ),
-                                      ),
-                                    ),
-                                  ),
-                                ),
-                              ),
-                            ),
-                          ),
-                        ),
-                      ),
-                    ),
-                  ),
-                ),
-              ),
-            ),
-          ),
-        ),
-      ),
-    ),
-  )
+  each =
+      (λ _. unknown-key) ⊗
+      fine 1 ⊗
+      fine 2 ⊗
+      fine 3 ⊗
+      fine 4 ⊗
+      fine 5 ⊗
+      word-fault 6 (omega arith) (omega arith) (wordNumber 6 v) ⊗
+      word-fault 7 (omega arith) (omega arith) (wordNumber 7 v) ⊗
+      hosts-fault ⊗
+      addresses-fault ⊗
+      ports-fault ⊗
+      number-fault 11 (omega arith) (omega arith) (secondsIn v) ⊗
+      number-fault 12 (omega arith) (omega arith) (secondsIn v) ⊗
+      number-fault 13 (omega arith) (omega arith) (unsignedOf (2 ^ 64 - 1) v) ⊗
+      number-fault 14 (omega arith) (omega arith) (secondsIn v) ⊗
+      number-fault 15 (omega arith) (omega arith) (secondsIn v) ⊗
+      number-fault 16 (omega arith) (omega arith) (unsignedOf (2 ^ 32 - 1) v) ⊗
+      word-fault 17 (omega arith) (omega arith) (wordNumber 17 v) ⊗
+      word-fault 18 (omega arith) (omega arith) (wordNumber 18 v) ⊗
+      word-fault 19 (omega arith) (omega arith) (wordNumber 19 v) ⊗
+      host-fault ⊗
+      done
 
   kind-reason : (kind : ℕ) → kind ≤ 20 → isFine (faultOf kind v start c) ≡ false → Reason kind (numberOf (faultOf kind v start c))
   unfolding faultOf
   kind-reason kind h e =
       let z : 0 + kind ≡ kind = omega arith in
-      subst (λ (n : ℕ). Reason n (numberOf (getD (faults v start c) kind Fault.UnknownKey))) z (look (faults v start c) 0 kind each (omega arith) e)
+      subst (λ (n : ℕ). Reason n (numberOf (getD (faults v start c) kind Fault.UnknownKey))) z (look each kind (omega arith) e)
 
   -- a setting that can't be applied, of whatever kind
   pub reason : (x : Setting) → isFine (applied (kindOf x) v start c .fault) ≡ false → Reason (kindOf x) (numberOf (applied (kindOf x) v start c .fault))

@@ -3,6 +3,7 @@
 use Prim.Native.Nat.{ℕ}
 use mathlib.Core.Path.{_≡_, refl, sym, ap, subst, _∙_}
 use mathlib.Core.List.{List, []}
+use mathlib.Core.Logic.{_↔_, inl}
 use native.Mathlib.Nat.{sub-zero}
 use native.Mathlib.Omega.{arith}
 use lib.ListN.{length, take, drop, replicate}
@@ -13,9 +14,9 @@ use Rattle.lists.specs.Fault.{isFine, numberOf, keyOf}
 use Rattle.reader.specs.declared.Answer.{Answer}
 use Rattle.reader.specs.Reader.{answer, left}
 use Rattle.reader.proofs.Answers as Answers
-use Rattle.demands.specs.Giving.{joined, Fails, Reason, Gives, too-long, no-room, not-utf8, first-fails, end-refuses, accepts}
+use Rattle.demands.specs.Giving.{joined, Fails, Reason, Read, Gives, too-long, no-room, not-utf8, first-fails, end-refuses, accepts}
 use Rattle.demands.specs.Leaving.{Leaves, Names, Refused, Accepted, Refusing}
-use Rattle.demands.proofs.Reasons.{reason, reason-five}
+use Rattle.demands.proofs.Reasons.{reason, reason-five, reason-four}
 use Rattle.demands.proofs.Answering.{gives, answers}
 use Rattle.demands.proofs.Numbers.{fault-low, end-low, one, two, three, zero, fault, end}
 use Rattle.demands.proofs.Buffer.{left-fails, left-refused, left-accepted, left-not-utf8}
@@ -31,6 +32,14 @@ first-reason : (s : List ℕ) (f : Fails s) → Reason (kindOf (f .setting)) (nu
 first-reason s f =
     subst (λ (x : Fault). Reason (kindOf (f .setting)) (numberOf x)) (f .has)
     (reason (valueOf (f .setting)) (length (joined (f .before))) (f .config) (f .setting) (ap isFine (f .has) ∙ f .fails))
+
+-- 4 is given for an unknown key, and for nothing else
+unknown-key : (s : List ℕ) (room : ℕ) → (answer s room .number ≡ 4) ↔ (Read s room × ((f : Fails s) × (kindOf (f .setting) ≡ 0)))
+unknown-key s room =
+    let by = fault s room 4 (inl (omega arith, omega arith)) in (
+      λ e. let x = by .0 e in (x .0, (x .1 .0, reason-four (first-reason s (x .1 .0)) .0 (x .1 .1))),
+      λ x. by .1 (x .0, (x .1 .0, reason-four (first-reason s (x .1 .0)) .1 (x .1 .1))),
+    )
 
 module _ (s d : List ℕ) where
   names : (f : Fails s) → numberOf (f .fault) ≡ 5 → Names s (keyOf (f .fault) (kindOf (f .setting)))
@@ -125,6 +134,7 @@ refusing s d =
       two = two s (length d);
       three = three s (length d);
       fault = fault s (length d);
+      four = unknown-key s (length d);
       reason = first-reason s;
       end = end s (length d);
       zero = zero s (length d);

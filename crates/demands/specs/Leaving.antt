@@ -57,6 +57,7 @@ pub record Refusing (s d : List ℕ) : Type 0 where
   pub three : (answer s (length d) .number ≡ 3) ↔ ((length s ≤ 4096) × (length s ≤ length d) × (wellFormed s ≡ false))
   -- 4, 5, 13, 14, 15: the first setting that can't be applied has the fault of this number, and its kind is the number's
   pub fault : (n : ℕ) → FaultNumber n → (answer s (length d) .number ≡ n) ↔ (Read s (length d) × ((f : Fails s) × (numberOf (f .fault) ≡ n)))
+  pub four : (answer s (length d) .number ≡ 4) ↔ (Read s (length d) × ((f : Fails s) × (kindOf (f .setting) ≡ 0)))
   pub reason : (f : Fails s) → Reason (kindOf (f .setting)) (numberOf (f .fault))
   -- 6 to 12: every setting can be applied, and the end has this number
   pub end : (n : ℕ) → 6 ≤ n → n ≤ 12 → (answer s (length d) .number ≡ n) ↔ (Read s (length d) × Whole s × (reading s .end ≡ n))
