@@ -1,5 +1,6 @@
 #!/usr/bin/env bash
-# The runs beside Rust: builds one x86-64 program out of the proved archive of crate probe and Rust's own library, and runs it.
+# The runs beside Rust: builds one x86-64 program out of the proved archives of crates probe and dock, of
+# Rust's own library and of the Rust that is ported, and runs it.
 #   differential/run.sh small   what `make test` runs: where the tools can't be had it says so, and succeeds
 #   differential/run.sh large   what `make differential` runs: there the same is a failure
 #   SEED=n          another seed for what is chosen freely (default 1)
@@ -91,18 +92,18 @@ install_missing() {
     [ -z "$(missing)" ] || cannot "still missing after apt-get: $(missing | tr '\n' ' ')"
 }
 
-# rt ci removes target/, so the archive is kept here, for as long as no crate and no kit changes.
+# rt ci removes target/, so the archives are kept here, for as long as no crate and no kit changes.
 build_archive() {
-    local sum
+    local name=$1 sum
     sum=$({
         rt version
         cat crates.txt
         find crates -type f \( -name '*.rt' -o -name '*.antt' \) -print0 | LC_ALL=C sort -z | xargs -0 sha256sum
     } | sha256sum)
-    [ ! -e "$build/libprobe.a" ] || [ "$sum" != "$(cat "$build/libprobe.sum" 2>/dev/null)" ] || return 0
-    rt staticlib probe >"$build/staticlib.log" 2>&1 || fail 'crate probe is not proved' "$build/staticlib.log"
-    cp target/staticlib/libprobe.a "$build/libprobe.a"
-    echo "$sum" >"$build/libprobe.sum"
+    [ ! -e "$build/lib$name.a" ] || [ "$sum" != "$(cat "$build/lib$name.sum" 2>/dev/null)" ] || return 0
+    rt staticlib "$name" >"$build/staticlib.log" 2>&1 || fail "crate $name is not proved" "$build/staticlib.log"
+    cp "target/staticlib/lib$name.a" "$build/lib$name.a"
+    echo "$sum" >"$build/lib$name.sum"
 }
 
 rust() {
@@ -120,7 +121,8 @@ build_original() {
     echo "$config_sum  $config" | sha256sum --check --status || fail "$config is not the one of pgwire 0.41.0"
     mkdir -p "$build/original/api/client"
     cp differential/original/lib.rs "$build/original/lib.rs"
-    cp "$config" "$build/original/api/client/config.rs"
+    cat "$config" differential/original/told.rs >"$build/original/api/client/config.rs"
+    cmp -s -n "$(wc -c <"$config")" "$config" "$build/original/api/client/config.rs" || fail 'config.rs was changed'
     rust --crate-type rlib --crate-name original --extern percent_encoding --cap-lints allow "$build/original/lib.rs"
     with_original=(--cfg original --extern original)
 }
@@ -130,8 +132,14 @@ mkdir -p "$build"
 install_missing
 rustc=$(find_rustc)
 with_original=()
-build_archive
+with_archives=()
+for archive in probe dock; do
+    # until crate dock is there the texts are read by the Rust alone, and held to 01
+    [ -d "crates/$archive" ] || continue
+    build_archive "$archive"
+    with_archives+=(--cfg "$archive" -l "static=$archive")
+done
 rust --crate-type rlib --crate-name percent_encoding --cap-lints allow --cfg 'feature="alloc"' --cfg 'feature="std"' "$(find_percent)"
 build_original
-rust --crate-name beside --extern percent_encoding "${with_original[@]}" -L native="$build" -l static=probe differential/beside/main.rs
+rust --crate-name beside --extern percent_encoding "${with_original[@]}" -L native="$build" "${with_archives[@]}" differential/beside/main.rs
 "${run[@]}" "$build/beside" "$size" "$seed"

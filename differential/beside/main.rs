@@ -1,27 +1,24 @@
-// The leaves beside Rust: every answer of the proved archive, with every byte that it was lent, against Rust's own library.
+// The leaves beside Rust's own library, the reader beside the Rust that is ported: every answer of the proved archives, with every byte
+// that they were lent.
 // usage: beside small|large SEED     the last line is 'differential: N compared, D differ'
 mod address;
 mod bytes;
 mod corpus;
+#[cfg(dock)]
+mod dock;
 mod lent;
+mod model;
 mod names;
 mod numbers;
 mod percent;
 mod probe;
+mod readings;
 mod tally;
 mod text;
+mod texts;
 
 use corpus::Rng;
 use tally::Tally;
-
-/// The Rust that is ported reads a text, so later runs can ask it.
-#[cfg(original)]
-fn original(t: &mut Tally) {
-    t.same("config.rs", &"host=a", Some(vec!["a".to_string()]), original::hosts("host=a"));
-}
-
-#[cfg(not(original))]
-fn original(_: &mut Tally) {}
 
 fn main() {
     let args: Vec<String> = std::env::args().collect();
@@ -40,7 +37,8 @@ fn main() {
     t.leaf("decimal", |t| numbers::write(t, large, rng));
     t.leaf("address", |t| address::run(t, large, rng));
     t.leaf("names", |t| names::run(t, large, rng));
-    t.leaf("original", original);
+    t.leaf("settings", |t| texts::settings(t, large, rng));
+    t.leaf("texts", |t| texts::run(t, large, rng));
     println!("differential: {} compared, {} differ", t.compared, t.differ);
     std::process::exit((t.differ != 0) as i32);
 }

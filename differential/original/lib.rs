@@ -1,5 +1,5 @@
 // The Rust that is ported: config.rs of pgwire 0.41.0, unchanged, with the few names that it takes from its own crate.
-// run.sh puts config.rs into its place beside a copy of this file.
+// run.sh puts config.rs into its place beside a copy of this file, with told.rs appended to it.
 #![allow(dead_code)]
 
 pub mod error {
@@ -27,15 +27,11 @@ pub mod api {
     }
 }
 
-/// The hosts of a text, or none where it is refused.
-pub fn hosts(text: &str) -> Option<Vec<String>> {
-    use api::client::config::{Config, Host};
-    let config: Config = text.parse().ok()?;
-    let shown = |host: &Host| match host {
-        Host::Tcp(name) => name.clone(),
-        Host::Unix(path) => path.display().to_string(),
-    };
-    Some(config.get_hosts().iter().map(shown).collect())
+pub use api::client::config::{applied, told, Setting, Told};
+
+/// Whether a text is read.
+pub fn accepts(text: &str) -> bool {
+    text.parse::<api::client::config::Config>().is_ok()
 }
 
 /// Whether a key is one of those that a text may set.
