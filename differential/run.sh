@@ -139,6 +139,7 @@ for archive in probe dock; do
     build_archive "$archive"
     with_archives+=(--cfg "$archive" -l "static=$archive")
 done
+! grep -q 'fn nyimbrak_read' crates/dock/src/lib.rt || with_archives+=(--cfg reads)
 rust --crate-type rlib --crate-name percent_encoding --cap-lints allow --cfg 'feature="alloc"' --cfg 'feature="std"' "$(find_percent)"
 build_original
 rust --crate-name beside --extern percent_encoding "${with_original[@]}" -L native="$build" "${with_archives[@]}" differential/beside/main.rs
