@@ -133,11 +133,9 @@ install_missing
 rustc=$(find_rustc)
 with_original=()
 with_archives=()
-for archive in probe dock; do
-    # until crate dock is there the texts are read by the Rust alone, and held to 01
-    [ -d "crates/$archive" ] || continue
+for archive in probe probe_record dock; do
     build_archive "$archive"
-    with_archives+=(--cfg "$archive" -l "static=$archive")
+    with_archives+=(-l "static=$archive")
 done
 ! grep -q 'fn nyimbrak_read' crates/dock/src/lib.rt || with_archives+=(--cfg reads)
 rust --crate-type rlib --crate-name percent_encoding --cap-lints allow --cfg 'feature="alloc"' --cfg 'feature="std"' "$(find_percent)"

@@ -4,7 +4,6 @@
 mod address;
 mod bytes;
 mod corpus;
-#[cfg(dock)]
 mod dock;
 mod lent;
 mod model;
@@ -13,6 +12,7 @@ mod numbers;
 mod percent;
 mod probe;
 mod readings;
+mod record;
 mod tally;
 mod text;
 mod texts;
@@ -37,7 +37,7 @@ fn main() {
     t.leaf("decimal", |t| numbers::write(t, large, rng));
     t.leaf("address", |t| address::run(t, large, rng));
     t.leaf("names", |t| names::run(t, large, rng));
-    t.leaf("settings", |t| texts::settings(t, large, rng));
+    t.leaf("settings", |t| record::run(t, large, rng));
     t.leaf("texts", |t| texts::run(t, large, rng));
     println!("differential: {} compared, {} differ", t.compared, t.differ);
     std::process::exit((t.differ != 0) as i32);

@@ -421,13 +421,40 @@ pub fn each(large: bool, rng: &mut Rng, f: &mut dyn FnMut(&[u8])) {
     made(large, rng, f);
 }
 
-/// A list of settings: a key's name, or none for one host from a URI, with its value.
+/// Settings in lists: a key's name, or none for one host from a URI, with its value. First each kind of value for each key, known or not,
+/// alone and behind one that is good; lists of 0 to 18 pieces, whose last piece is good, empty or bad, in one setting or in two.
+pub fn each_setting(f: &mut dyn FnMut(&[(Option<&'static str>, Vec<u8>)])) {
+    let bytes = |s: &str| s.as_bytes().to_vec();
+    for key in KEYS.iter().chain(&KEYS_NEAR) {
+        for v in NUMBERS.iter().chain(&ADDRESSES).chain(&WORDS).chain(&HOSTS).chain(&ODD) {
+            f(&[(Some(*key), bytes(v))]);
+            f(&[(Some(*key), bytes("1")), (Some(*key), bytes(v)), (Some("user"), bytes("x"))]);
+            f(&[(None, bytes(v)), (Some(*key), bytes(v))]);
+        }
+    }
+    for n in 0..=18 {
+        for item in ["1", "1.2.3.4", "::1", "", "/t"] {
+            for last in ["", "1", "x", "65536", "1.2.3.4", "::1", "/s"] {
+                let list = [vec![item; n].join(","), last.to_string()].join(",");
+                for key in ["port", "hostaddr", "host"] {
+                    f(&[(Some(key), bytes(&list))]);
+                    f(&[(Some(key), bytes(item)), (Some("user"), bytes("u")), (Some(key), bytes(&list)), (Some("port"), bytes("x"))]);
+                }
+                let mut many: Vec<(Option<&'static str>, Vec<u8>)> = vec![(None, bytes(item)); n];
+                many.push((Some("host"), bytes(last)));
+                f(&many);
+            }
+        }
+    }
+}
+
+/// A list of settings, chosen freely.
 pub fn settings(rng: &mut Rng) -> Vec<(Option<&'static str>, Vec<u8>)> {
     let n = if rng.one_in(12) { 10 + rng.below(12) } else { rng.below(7) };
     (0..n)
         .map(|_| {
             if rng.one_in(8) {
-                let host: &[u8] = [b"db1", b"/run/\xff\xfe".as_slice(), b"a,b", b"", b"/a,/b", b"\xc3\xa9"][rng.below(6)];
+                let host: &[u8] = [b"db1", &b"/run/\xff\xfe"[..], b"a,b", b"", b"/a,/b", b"\xc3\xa9"][rng.below(6)];
                 return (None, host.to_vec());
             }
             let key = key(rng);

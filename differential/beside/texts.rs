@@ -1,7 +1,7 @@
 // The reader beside the Rust that is ported: number, key, count, every byte of lent memory and the report, for every text.
 use crate::corpus::Rng;
 use crate::lent::Lent;
-use crate::model::{self, Answer, Setting};
+use crate::model::{self, Answer};
 use crate::readings;
 use crate::tally::{Tally, Text};
 
@@ -43,7 +43,6 @@ fn text(t: &mut Tally, n: u64, text: &[u8]) -> u32 {
     want.number
 }
 
-#[cfg(dock)]
 fn compare(t: &mut Tally, _n: u64, text: &[u8], room: usize, want: &Answer) {
     let mut decode = Lent::of(room);
     let got = crate::dock::answer(text, decode.part());
@@ -67,12 +66,6 @@ fn compare_report(t: &mut Tally, n: u64, text: &[u8], room: usize, want: &Answer
     t.agree("nyimbrak_read", &(Text(text), room, report_room), &(number, left(want, room), rust), &(got, decode, report));
 }
 
-/// Until there is an archive: the Rust beside 01 in plain Rust.
-#[cfg(not(dock))]
-fn compare(t: &mut Tally, _: u64, text: &[u8], room: usize, want: &Answer) {
-    t.same("01 in plain Rust", &Text(text), left(want, room), left(&model::answer(text, room), room));
-}
-
 pub fn run(t: &mut Tally, large: bool, rng: &mut Rng) {
     let (mut n, mut numbers) = (0, [0u64; 16]);
     readings::each(large, rng, &mut |s| {
@@ -81,29 +74,4 @@ pub fn run(t: &mut Tally, large: bool, rng: &mut Rng) {
     });
     let shown: Vec<String> = numbers.iter().enumerate().map(|(i, n)| format!("{}: {}", i, n)).collect();
     println!("  of which are answered by {}", shown.join(", "));
-}
-
-/// Lists of settings: what `Config::param` makes of them.
-pub fn settings(t: &mut Tally, large: bool, rng: &mut Rng) {
-    let mut given = 0;
-    for _ in 0..if large { 300_000 } else { 10_000 } {
-        let list = readings::settings(rng);
-        given += list.len();
-        let plain: Vec<Setting> = list
-            .iter()
-            .map(|(key, v)| match key {
-                Some(key) => Setting::Keyed(key.as_bytes().to_vec(), v.clone()),
-                None => Setting::OneHost(v.clone()),
-            })
-            .collect();
-        let want = model::applied(&plain);
-        #[cfg(original)]
-        {
-            let given: Vec<original::Setting> = list.iter().map(|(key, v)| (*key, v.as_slice())).collect();
-            if let Some(rust) = original::applied(&given) {
-                t.same("01 in plain Rust, of settings", &list, &rust, &want);
-            }
-        }
-    }
-    println!("  {} settings", given);
 }
