@@ -13,7 +13,7 @@ use Rattle.lines.specs.Line.{line, lines, linesFrom}
 use Rattle.byte.specs.Ascii.{bytes}
 use Rattle.names.specs.Names.{keyName}
 use Rattle.draw.specs.Pen.{Sheet, drawn}
-use Rattle.draw.proofs.Parts.{size-none, size-cons, size-append}
+use Rattle.draw.proofs.Parts.{joined-none, joined-cons, joined-one, joined-append, size-none, size-cons, size-append}
 use Rattle.draw.proofs.Drawing.{draw-then, drawn-none}
 
 -- the lines of a key: none, and one before others
@@ -112,3 +112,24 @@ from-size-none key = ap (λ (l : List (List ℕ)). length (joined l)) (from-none
 pub from-size-cons : (key : ℕ) (values : List (List (List ℕ))) (more : List (List (List (List ℕ))))
     → length (joined (linesFrom key (values ∷ more))) ≡ length (joined (lines key values)) + length (joined (linesFrom (key + 1) more))
 from-size-cons key values more = ap (λ (l : List (List ℕ)). length (joined l)) (from-cons key values more) ∙ size-append (lines key values) (linesFrom (key + 1) more)
+
+-- The bytes of lines.
+pub line-joined : (key : ℕ) (value : List (List ℕ)) → joined (line key value) ≡ keyName key ++ 61 ∷ (joined value ++ (10 ∷ []))
+unfolding line
+line-joined key value =
+    let end : List ℕ = 10 ∷ [] in
+    joined-cons (keyName key) (bytes "=" ∷ (value ++ end ∷ []))
+    ∙ ap (λ (l : List ℕ). keyName key ++ l) (joined-cons (bytes "=") (value ++ end ∷ []) ∙ ap (λ (l : List ℕ). 61 ∷ l) (joined-append value (end ∷ []) ∙ ap (λ (l : List ℕ). joined value ++ l) (joined-one end)))
+
+pub lines-joined-cons : (key : ℕ) (value : List (List ℕ)) (values : List (List (List ℕ))) → joined (lines key (value ∷ values)) ≡ joined (line key value) ++ joined (lines key values)
+lines-joined-cons key value values = ap joined (lines-cons key value values) ∙ joined-append (line key value) (lines key values)
+
+pub lines-joined-none : (key : ℕ) → joined (lines key []) ≡ []
+lines-joined-none key = ap joined (lines-none key) ∙ joined-none
+
+pub from-joined-cons : (key : ℕ) (values : List (List (List ℕ))) (more : List (List (List (List ℕ))))
+    → joined (linesFrom key (values ∷ more)) ≡ joined (lines key values) ++ joined (linesFrom (key + 1) more)
+from-joined-cons key values more = ap joined (from-cons key values more) ∙ joined-append (lines key values) (linesFrom (key + 1) more)
+
+pub from-joined-none : (key : ℕ) → joined (linesFrom key []) ≡ []
+from-joined-none key = ap joined (from-none key) ∙ joined-none

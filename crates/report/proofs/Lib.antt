@@ -1,3 +1,4 @@
 pub mod Groups
 pub mod Told
+pub mod Exactly
 pub mod Examples

@@ -1,0 +1,4 @@
+pub mod Bound
+pub mod Hidden
+pub mod ReadBack
+pub mod Typed
