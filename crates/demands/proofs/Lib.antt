@@ -12,3 +12,4 @@ pub mod Shows
 pub mod Blind
 pub mod Passwords
 pub mod Commas
+pub mod Reports
