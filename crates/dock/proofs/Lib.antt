@@ -1,2 +1,4 @@
 pub mod Ends
 pub mod Bounds
+pub mod Entry
+pub mod Places

@@ -1,1 +1,3 @@
 pub mod Answers
+pub mod Entry
+pub mod Places

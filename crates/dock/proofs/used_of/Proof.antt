@@ -1,0 +1,17 @@
+-- `dock::used_of` meets its contract.
+-- Assumes nothing.
+use borrow.Author.Tests.{le-leb, lt-leb}
+use Rattle.dock.specs.Entry.{used}
+use Rattle.dock.proofs.used_of.Statement.{statement}
+use Rattle.dock.proofs.used_of.Tie as tie
+
+returns : tie.Need-returns
+unfolding used
+returns c = rw (le-leb _ _ (c .if1 .taken))
+
+returns-2 : tie.Need-returns-2
+unfolding used
+returns-2 c = rw (lt-leb _ _ (c .if1 .left))
+
+pub used-of-spec : {M : Type 1} → statement M
+used-of-spec = tie.close (tie.spec returns returns-2)
