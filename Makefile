@@ -1,18 +1,27 @@
-# test          the gate: layout, the small runs beside Rust, then every proof from nothing
+# run           read a text from standard input, write its report or its refusal
+# test          the gate: layout, the small runs beside Rust, the host in C, then every proof from nothing
+# staticlib     build/libnyimbrak.a, for C to link with include/nyimbrak.h
 # differential  the large runs beside Rust: some minutes at most
 # clean         remove what was built
-.PHONY: test differential clean kit
+.PHONY: run test staticlib differential clean kit
+
+run: kit
+	@scripts/run.sh
 
 test: kit
 	rt fmt --check
 	differential/run.sh small
+	scripts/host.sh
 	rt ci
+
+staticlib: kit
+	scripts/archive.sh
 
 differential: kit
 	differential/run.sh large
 
 clean:
-	rm -rf target differential/build
+	rm -rf target build differential/build
 
 kit:
 	@command -v rt >/dev/null || { echo 'make: rt is missing: install the Rattle kit (README.md says which)' >&2; exit 2; }

@@ -13,7 +13,7 @@ fn write_refusal(number: u64) {
 
 fn write_answer(text: &[u8]) {
     let mut decode = [0u8; 4097];
-    let mut report = [0u8; 16384];
+    let mut report = [0u8; 13795];
     let r = dock::nyimbrak_read(text, &mut decode, &mut report);
     if r < REFUSED {
         io::write_all(STDOUT_FILENO, byte::part(&report, 0, r as usize));
