@@ -3,6 +3,7 @@
 # Rust's own library and of the Rust that is ported, and runs it.
 #   differential/run.sh small   what `make test` runs: where the tools can't be had it says so, and succeeds
 #   differential/run.sh large   what `make differential` runs: there the same is a failure
+#   differential/run.sh vectors writes crates/replay/stdin, a sample of the Rust's answers, and what the program owes for it
 #   SEED=n          another seed for what is chosen freely (default 1)
 #   DOCS_SRC=dir    where the Rust that is ported lies (default: ../shared/docs/src beside the repository)
 #   RUSTC=command   another Rust compiler
@@ -18,8 +19,8 @@ target=x86_64-unknown-linux-gnu
 build=differential/build
 
 case $size in
-small | large) ;;
-*) echo "usage: differential/run.sh small|large" >&2 && exit 2 ;;
+small | large | vectors) ;;
+*) echo "usage: differential/run.sh small|large|vectors" >&2 && exit 2 ;;
 esac
 
 # The tools or the Rust can't be had: the small run is left out, the large one fails.
@@ -132,13 +133,19 @@ mkdir -p "$build"
 install_missing
 rustc=$(find_rustc)
 with_original=()
+rust --crate-type rlib --crate-name percent_encoding --cap-lints allow --cfg 'feature="alloc"' --cfg 'feature="std"' "$(find_percent)"
+build_original
+if [ "$size" = vectors ]; then
+    rust --crate-name vectors "${with_original[@]}" --cap-lints allow differential/beside/vectors.rs
+    "${run[@]}" "$build/vectors" crates/replay/stdin "$seed" | tee "$build/vectors.log"
+    sed -n 's/ vectors, .*/ as they should be, 0 differ/p' "$build/vectors.log" >crates/replay/stdout
+    exit 0
+fi
 with_archives=()
 for archive in probe probe_record dock; do
     build_archive "$archive"
     with_archives+=(-l "static=$archive")
 done
 ! grep -q 'fn nyimbrak_read' crates/dock/src/lib.rt || with_archives+=(--cfg reads)
-rust --crate-type rlib --crate-name percent_encoding --cap-lints allow --cfg 'feature="alloc"' --cfg 'feature="std"' "$(find_percent)"
-build_original
 rust --crate-name beside --extern percent_encoding "${with_original[@]}" -L native="$build" "${with_archives[@]}" differential/beside/main.rs
 "${run[@]}" "$build/beside" "$size" "$seed"
