@@ -146,6 +146,5 @@ for archive in probe probe_record dock; do
     build_archive "$archive"
     with_archives+=(-l "static=$archive")
 done
-! grep -q 'fn nyimbrak_read' crates/dock/src/lib.rt || with_archives+=(--cfg reads)
 rust --crate-name beside --extern percent_encoding "${with_original[@]}" -L native="$build" "${with_archives[@]}" differential/beside/main.rs
 "${run[@]}" "$build/beside" "$size" "$seed"

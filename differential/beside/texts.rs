@@ -43,16 +43,15 @@ fn text(t: &mut Tally, n: u64, text: &[u8]) -> u32 {
     want.number
 }
 
-fn compare(t: &mut Tally, _n: u64, text: &[u8], room: usize, want: &Answer) {
+/// Number, key and count, and every byte of the decode buffer.
+fn compare(t: &mut Tally, n: u64, text: &[u8], room: usize, want: &Answer) {
     let mut decode = Lent::of(room);
     let got = crate::dock::answer(text, decode.part());
     t.same("nyimbrak_answer", &(Text(text), room), (want.number, want.key, want.count, left(want, room)), (got.0, got.1, got.2, decode));
-    #[cfg(reads)]
-    compare_report(t, _n, text, room, want);
+    compare_report(t, n, text, room, want);
 }
 
 /// The report into an exact buffer, one byte short, none, and longer.
-#[cfg(reads)]
 fn compare_report(t: &mut Tally, n: u64, text: &[u8], room: usize, want: &Answer) {
     let full = want.report.len();
     let report_room = [full, full.saturating_sub(1), full + 9, 0][n as usize % 4];
