@@ -1,9 +1,10 @@
 # run           read a text from standard input, write its report or its refusal
-# test          the gate: layout, the small runs beside Rust, the host in C, then every proof from nothing
+# test          the gate: layout, the small runs beside Rust, the host in C, PostgreSQL, then every proof from nothing
+# test-postgres sessions opened by the gateway in C with a PostgreSQL 15 that is started for it: seconds
 # staticlib     build/libnyimbrak.a, for C to link with include/nyimbrak.h
 # differential  the large runs beside Rust: some minutes at most
 # clean         remove what was built
-.PHONY: run test staticlib differential clean kit
+.PHONY: run test test-postgres staticlib differential clean kit
 
 run: kit
 	@scripts/run.sh
@@ -12,7 +13,11 @@ test: kit
 	rt fmt --check
 	differential/run.sh small
 	scripts/host.sh
+	scripts/postgres.sh gate
 	rt ci
+
+test-postgres: kit
+	scripts/postgres.sh test
 
 staticlib: kit
 	scripts/archive.sh
