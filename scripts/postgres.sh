@@ -1,8 +1,9 @@
 #!/usr/bin/env bash
 # A real PostgreSQL 15 behind the dock: starts a private server, opens sessions by examples/gateway.c from the texts below, holds
 # what the server says to what was meant, and stops the server again.
-#   scripts/postgres.sh test   what `make test-postgres` runs
-#   scripts/postgres.sh gate   what `make test` runs: where Debian's packages can't be had it says so, and succeeds
+#   scripts/postgres.sh test     what `make test-postgres` runs
+#   scripts/postgres.sh gate     what `make test` runs: where Debian's packages can't be had it says so, and succeeds
+#   scripts/postgres.sh compare  no server: texts that libpq's own parser reads otherwise, held to docs/DIFFERENCES.md (the others do so, too)
 # What is missing is installed by Debian's packages. On aarch64 the gateway is cross-built with the x86-64 libpq and run by
 # qemu-user, beside the machine's own server.
 set -euo pipefail
@@ -13,8 +14,8 @@ libpq=/usr/lib/x86_64-linux-gnu/libpq.so.5
 headers=/usr/include/postgresql
 
 case $mode in
-test | gate) ;;
-*) echo 'usage: scripts/postgres.sh test|gate' >&2 && exit 2 ;;
+test | gate | compare) ;;
+*) echo 'usage: scripts/postgres.sh test|gate|compare' >&2 && exit 2 ;;
 esac
 
 # The packages can't be had.
@@ -44,7 +45,7 @@ aarch64)
 esac
 
 missing() {
-    [ -x $server/postgres ] || echo postgresql-15
+    [ "$mode" = compare ] || [ -x $server/postgres ] || echo postgresql-15
     [ -e $headers/libpq-fe.h ] || echo libpq-dev
     [ -e $libpq ] || echo $libpq_package
     command -v "$compiler" >/dev/null || echo "$compiler_packages"
@@ -76,9 +77,25 @@ install_missing() {
     [ -z "$(missing)" ] || cannot "still missing after apt-get: $(missing | tr '\n' ' ')"
 }
 
-build_gateway() {
-    "$compiler" -std=c11 -O2 -Wall -Wextra -Werror -Iinclude -I$headers examples/gateway.c \
-        build/libnyimbrak.a $libpq -Wl,-rpath-link,${libpq%/*} -o build/gateway
+build() {
+    "$compiler" -std=c11 -O2 -Wall -Wextra -Werror -Iinclude -I$headers "$1" \
+        build/libnyimbrak.a $libpq -Wl,-rpath-link,${libpq%/*} -o "$2"
+}
+
+# The rows of the page are what the program prints.
+compare() {
+    local status=0
+    build differential/conninfo.c build/conninfo
+    "${run[@]}" build/conninfo >build/conninfo.rows 2>build/conninfo.alike || status=$?
+    if [ $status = 3 ]; then
+        echo "postgres: libpq's own parser is left out ($(cat build/conninfo.alike))"
+        return 0
+    fi
+    [ $status = 0 ] || fail 'differential/conninfo.c failed' build/conninfo.alike
+    [ "$mode" != compare ] || cat build/conninfo.rows build/conninfo.alike
+    sed -n '/^| text | libpq 15 /,/^$/p' docs/DIFFERENCES.md | sed '1,2d; /^$/d' | diff -u - build/conninfo.rows ||
+        fail 'docs/DIFFERENCES.md has other rows than libpq and we give'
+    echo "postgres: libpq's own parser: $(tail -n 1 build/conninfo.alike), as docs/DIFFERENCES.md says"
 }
 
 # PostgreSQL refuses to be root. The server stops, too, where this script is killed and no trap runs.
@@ -209,7 +226,9 @@ try_texts() {
 mkdir -p build
 install_missing
 scripts/archive.sh
-build_gateway
+compare
+[ "$mode" != compare ] || exit 0
+build examples/gateway.c build/gateway
 make_server
 start_server
 try_texts
