@@ -3,8 +3,9 @@
 # test-postgres sessions opened by the gateway in C with a PostgreSQL 15 that is started for it: seconds
 # staticlib     build/libnyimbrak.a, for C to link with include/nyimbrak.h
 # differential  the large runs beside Rust: some minutes at most
+# bench         instructions for one text beside the Rust's, into docs/PERFORMANCE.md
 # clean         remove what was built
-.PHONY: run test test-postgres staticlib differential clean kit
+.PHONY: run test test-postgres staticlib differential bench clean kit
 
 run: kit
 	@scripts/run.sh
@@ -24,6 +25,9 @@ staticlib: kit
 
 differential: kit
 	differential/run.sh large
+
+bench: kit
+	bench/run.sh
 
 clean:
 	rm -rf target build differential/build
