@@ -1,0 +1,5 @@
+pub mod Sum
+pub mod Within
+pub mod Room
+pub mod Entries
+pub mod Stands
