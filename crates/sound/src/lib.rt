@@ -53,7 +53,8 @@ fn hosts_in(h: Hosts, n: usize) -> bool
     true
 }
 
-fn counts_in(c: Config) -> bool
+// Whether no list count is above 16.
+pub fn counts_in(c: Config) -> bool
     ensures { λ r. ⌜ r ≡ counted c ⌝ }
 {
     if 16 < c.host.count {
