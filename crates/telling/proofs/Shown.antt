@@ -24,12 +24,12 @@ use Rattle.telling.specs.Hidden.{Bytes, Small, NamedBytes, HostsBytes, R
 use Rattle.telling.specs.Typed.{Typed}
 
 -- a part of a list of bytes
-all-take : (p : ℕ → Type 0) (n : ℕ) (s : List ℕ) → All p s → All p (take n s)
+pub all-take : (p : ℕ → Type 0) (n : ℕ) (s : List ℕ) → All p s → All p (take n s)
 all-take p zero s h = tt
 all-take p (suc n) [] h = tt
 all-take p (suc n) (a ∷ s) h = (h .0, all-take p n s (h .1))
 
-all-drop : (p : ℕ → Type 0) (n : ℕ) (s : List ℕ) → All p s → All p (drop n s)
+pub all-drop : (p : ℕ → Type 0) (n : ℕ) (s : List ℕ) → All p s → All p (drop n s)
 all-drop p zero s h = h
 all-drop p (suc n) [] h = tt
 all-drop p (suc n) (a ∷ s) h = all-drop p n s (h .1)
