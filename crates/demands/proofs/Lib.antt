@@ -13,3 +13,6 @@ pub mod Blind
 pub mod Passwords
 pub mod Commas
 pub mod Reports
+pub mod Bytes
+pub mod InRange
+pub mod Telling

@@ -20,17 +20,17 @@ use Rattle.demands.specs.Blind.{Readable, Alike}
 use Rattle.demands.proofs.Shows.{read-sound}
 use Rattle.demands.proofs.Blind.{blind}
 
--- a password's value that is taken away twice
-once : (p : Option (List ℕ)) → Telling.veiled (View.onlySet p) ≡ Telling.veiled p
-once none = refl
-once (some x) = refl
+-- both ways to take a password's value away are one
+same-veiled : (p : Option (List ℕ)) → View.onlySet p ≡ Telling.veiled p
+same-veiled none = refl
+same-veiled (some x) = refl
 
-twice : (w : Values) → Telling.hidden (View.hidden w) ≡ Telling.hidden w
+pub same-hidden : (w : Values) → View.hidden w ≡ Telling.hidden w
 unfolding Telling.hidden View.hidden
-twice w = rw (once (w .password))
+same-hidden w = rw (same-veiled (w .password))
 
 hidden-same : (v w : Values) → View.hidden v ≡ View.hidden w → report v ≡ report w
-hidden-same v w e = Told.blind v w (sym (twice v) ∙ ap Telling.hidden e ∙ twice w)
+hidden-same v w e = Told.blind v w (sym (same-hidden v) ∙ e ∙ same-hidden w)
 
 module _ (s t d e : List ℕ) (r : Readable s d) (q : Readable t e) (a : Alike (reading s) (reading t)) where
   pub same-report : report (shown (left s d) (answer s (length d) .config)) ≡ report (shown (left t e) (answer t (length e) .config))
