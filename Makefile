@@ -3,9 +3,10 @@
 # test-postgres sessions opened by the gateway in C with a PostgreSQL 15 that is started for it: seconds
 # staticlib     build/libnyimbrak.a, for C to link with include/nyimbrak.h
 # differential  the large runs beside Rust: some minutes at most
+# slips         slips made on purpose in a copy of the reader, each to be noticed by the program replay: ten minutes
 # bench         instructions for one text beside the Rust's, into docs/PERFORMANCE.md
 # clean         remove what was built
-.PHONY: run test test-postgres staticlib differential bench clean kit
+.PHONY: run test test-postgres staticlib differential slips bench clean kit
 
 run: kit
 	@scripts/run.sh
@@ -28,6 +29,9 @@ differential: kit
 
 bench: kit
 	bench/run.sh
+
+slips: kit
+	python3 differential/slips.py
 
 clean:
 	rm -rf target build differential/build
