@@ -1,15 +1,13 @@
 #!/usr/bin/env bash
 # What one text costs, the proved archive beside the Rust that is ported: builds one x86-64 program out of both, counts its
 # instructions under qemu-user, and writes the figures and the plot of docs/PERFORMANCE.md. No time is measured: on one machine with one Rust
-# and one C library the figures are the same at every run.
+# and one C library the figures are the same at every run. What is missing is installed by Debian's packages.
 #   DOCS_SRC=dir    where the Rust that is ported lies (default: ../shared/docs/src beside the repository)
 #   RUSTC=command   another Rust compiler
 set -euo pipefail
 cd "$(dirname "$0")/.."
 config=${DOCS_SRC:-../shared/docs/src}/src/api/client/config.rs
 config_sum=79bdf1f6bfabaf5bbb9aea67c7d7a4101d8bed03f2ab6d5ddb01aa50a1a9feca # pgwire 0.41.0
-target=x86_64-unknown-linux-gnu
-rustc=${RUSTC:-rustc}
 out=build/bench
 
 cannot() {
@@ -17,16 +15,29 @@ cannot() {
     exit 2
 }
 
+. scripts/tools.sh
+
 case $(uname -m) in
-x86_64) linker=${CC:-gcc} run=() ;;
-aarch64) linker=x86_64-linux-gnu-gcc run=(qemu-x86_64) ;;
+x86_64) linker=${CC:-gcc} linker_packages='gcc libc6-dev' rust_packages='rustc' run=() ;;
+aarch64)
+    linker=x86_64-linux-gnu-gcc linker_packages='gcc-x86-64-linux-gnu libc6-dev-amd64-cross'
+    rust_packages='rustc libstd-rust-dev:amd64' run=(qemu-x86_64)
+    ;;
 *) cannot "no way is known to run an x86-64 program on $(uname -m)" ;;
 esac
-for tool in "$rustc" "$linker" gcc python3 qemu-x86_64; do
-    command -v "$tool" >/dev/null || cannot "no $tool"
-done
-percent=$(dpkg -L librust-percent-encoding-dev 2>/dev/null | grep '/percent-encoding-2[^/]*/src/lib\.rs$') ||
-    cannot 'no librust-percent-encoding-dev'
+
+missing() {
+    find_rustc >/dev/null || echo "$rust_packages"
+    find_percent >/dev/null || echo librust-percent-encoding-dev
+    command -v "$linker" >/dev/null || echo "$linker_packages"
+    command -v gcc >/dev/null || echo gcc libc6-dev
+    command -v qemu-x86_64 >/dev/null || echo qemu-user
+    command -v python3 >/dev/null || echo python3
+}
+
+mkdir -p "$out/original/api/client"
+install_missing bench "$out/install.log"
+rustc=$(find_rustc)
 echo "$config_sum  $config" | sha256sum --check --status || cannot "$config is not the one of pgwire 0.41.0: set DOCS_SRC"
 scripts/archive.sh
 
@@ -34,10 +45,9 @@ rust() {
     "$rustc" --edition 2021 -C opt-level=3 --target $target -C linker="$linker" --out-dir "$out" -L "$out" --cap-lints allow "$@"
 }
 
-mkdir -p "$out/original/api/client"
 cp differential/original/lib.rs "$out/original/lib.rs"
 cat "$config" differential/original/told.rs >"$out/original/api/client/config.rs"
-rust --crate-type rlib --crate-name percent_encoding --cfg 'feature="alloc"' --cfg 'feature="std"' "$percent"
+rust --crate-type rlib --crate-name percent_encoding --cfg 'feature="alloc"' --cfg 'feature="std"' "$(find_percent)"
 rust --crate-type rlib --crate-name original --extern percent_encoding "$out/original/lib.rs"
 rust --crate-name bench --extern original -L native=build -l static=nyimbrak bench/main.rs
 gcc -O2 -shared -fPIC -Wall -Wextra -Werror bench/count.c -o "$out/count.so"

@@ -15,7 +15,6 @@ size=${1:-}
 seed=${SEED:-1}
 config=${DOCS_SRC:-../shared/docs/src}/src/api/client/config.rs
 config_sum=79bdf1f6bfabaf5bbb9aea67c7d7a4101d8bed03f2ab6d5ddb01aa50a1a9feca # pgwire 0.41.0
-target=x86_64-unknown-linux-gnu
 build=differential/build
 
 case $size in
@@ -39,21 +38,7 @@ fail() {
     exit 1
 }
 
-# A compiler that has the standard library for x86-64, Debian's among those that are tried.
-find_rustc() {
-    local command lib
-    for command in ${RUSTC:-rustc /usr/bin/rustc}; do
-        lib=$("$command" --print target-libdir --target $target 2>/dev/null) || continue
-        compgen -G "$lib/libstd-*.rlib" >/dev/null && echo "$command" && return
-    done
-    return 1
-}
-
-find_percent() {
-    local files
-    files=$(dpkg -L librust-percent-encoding-dev 2>/dev/null) || return 1
-    grep '/percent-encoding-2[^/]*/src/lib\.rs$' <<<"$files"
-}
+. scripts/tools.sh
 
 case $(uname -m) in
 x86_64)
@@ -72,25 +57,6 @@ missing() {
     find_percent >/dev/null || echo librust-percent-encoding-dev
     command -v "$linker" >/dev/null || echo "$linker_packages"
     [ ${#run[@]} = 0 ] || command -v "${run[0]}" >/dev/null || echo qemu-user
-}
-
-install_missing() {
-    local packages as_root=()
-    packages=$(missing | tr '\n' ' ')
-    [ -n "$packages" ] || return 0
-    command -v apt-get >/dev/null || cannot "missing: ${packages% }, and there is no apt-get"
-    if [ "$(id -u)" != 0 ]; then
-        sudo -n true 2>/dev/null || cannot "missing, and only root can install: ${packages% }"
-        as_root=(sudo -n)
-    fi
-    echo "differential: installing ${packages% }"
-    {
-        [[ $packages != *:amd64* ]] || "${as_root[@]}" dpkg --add-architecture amd64
-        "${as_root[@]}" apt-get -o Acquire::Retries=1 -o Acquire::http::Timeout=30 update -qq
-        # shellcheck disable=SC2086
-        "${as_root[@]}" env DEBIAN_FRONTEND=noninteractive apt-get install -y -qq --no-install-recommends $packages
-    } >"$build/install.log" 2>&1 || cannot "apt-get could not install ${packages% }"
-    [ -z "$(missing)" ] || cannot "still missing after apt-get: $(missing | tr '\n' ' ')"
 }
 
 # rt ci removes target/, so the archives are kept here, for as long as no crate and no kit changes.
@@ -130,7 +96,7 @@ build_original() {
 
 command -v rt >/dev/null || cannot 'no rt: the Rattle kit is missing'
 mkdir -p "$build"
-install_missing
+install_missing differential "$build/install.log"
 rustc=$(find_rustc)
 with_original=()
 rust --crate-type rlib --crate-name percent_encoding --cap-lints allow --cfg 'feature="alloc"' --cfg 'feature="std"' "$(find_percent)"

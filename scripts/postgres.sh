@@ -52,30 +52,7 @@ missing() {
     [ ${#run[@]} = 0 ] || command -v "${run[0]}" >/dev/null || echo qemu-user
 }
 
-install_missing() {
-    local packages as_root=() done=yes apt=(apt-get -o Acquire::Retries=1 -o Acquire::http::Timeout=30)
-    # Debian's package makes and starts a server of its own, unless this says no
-    local no_server=/etc/postgresql-common/createcluster.d/nyimbrak.conf
-    packages=$(missing | tr '\n' ' ')
-    [ -n "$packages" ] || return 0
-    command -v apt-get >/dev/null || cannot "missing: ${packages% }, and there is no apt-get"
-    if [ "$(id -u)" != 0 ]; then
-        sudo -n true 2>/dev/null || cannot "missing, and only root can install: ${packages% }"
-        as_root=(sudo -n)
-    fi
-    echo "postgres: installing ${packages% }"
-    {
-        [[ $packages != *:amd64* ]] || "${as_root[@]}" dpkg --add-architecture amd64
-        "${as_root[@]}" "${apt[@]}" update -qq
-        "${as_root[@]}" mkdir -p "${no_server%/*}"
-        echo 'create_main_cluster = false' | "${as_root[@]}" tee "$no_server"
-        # shellcheck disable=SC2086
-        "${as_root[@]}" env DEBIAN_FRONTEND=noninteractive "${apt[@]}" install -y -qq --no-install-recommends $packages
-    } </dev/null >build/install.log 2>&1 || done=
-    "${as_root[@]}" rm -f "$no_server"
-    [ -n "$done" ] || cannot "apt-get could not install ${packages% }"
-    [ -z "$(missing)" ] || cannot "still missing after apt-get: $(missing | tr '\n' ' ')"
-}
+. scripts/tools.sh
 
 build() {
     "$compiler" -std=c11 -O2 -Wall -Wextra -Werror -Iinclude -I$headers "$1" \
@@ -224,7 +201,7 @@ try_texts() {
 }
 
 mkdir -p build
-install_missing
+install_missing postgres build/install.log
 scripts/archive.sh
 compare
 [ "$mode" != compare ] || exit 0
