@@ -76,7 +76,7 @@ sized b n m c i h =
     }
 
 shown-kept : (v : Values) → shownBytes v ≤ keptBytes v
-unfolding keptBytes
+unfolding keptBytes shownBytes
 shown-kept v = omega arith
 
 module _ (s d : List ℕ) where

@@ -16,8 +16,8 @@ use Rattle.lists.specs.Append.{good}
 use Rattle.config.specs.Values.{HostValue, tcp, unix, Values}
 use Rattle.view.specs.Given.{entriesOf, hostValue, hostPieces, oneHostPiece, given}
 use Rattle.reader.specs.Reader.{keeps}
-use Rattle.telling.specs.Bound.{textBytes, nameBytes, hostBytes, shownBytes}
-use Rattle.limits.specs.Limits.{keptBytes}
+use Rattle.telling.specs.Bound.{nameBytes, hostBytes}
+use Rattle.limits.specs.Limits.{together, keptBytes}
 
 -- a host has its value's bytes
 name-bytes : (v : List ℕ) → nameBytes (hostValue v) ≡ length v
@@ -56,48 +56,49 @@ one-bytes : (v : List ℕ) → hostBytes (entriesOf (oneHostPiece v)) ≡ length
 unfolding hostBytes entriesOf
 one-bytes v = omega (arith, name-bytes v)
 
-abbrev sum : Option (List ℕ) → Option (List ℕ) → Option (List ℕ) → Option (List ℕ) → Option (List ℕ) → List HostValue → ℕ
-sum p u d o a h = textBytes p + (textBytes u + textBytes d + textBytes o + textBytes a + hostBytes h)
-
 -- a setting adds at most what is kept of it
 module _ (v : List ℕ) (w : Values) where
   abbrev Adds : ℕ → Type 0
   Adds kind = keptBytes (given kind v w) ≤ keptBytes w + length (pick (keeps kind) v [])
 
-  abbrev whole : ℕ
-  whole = sum (w .password) (w .user) (w .dbname) (w .options) (w .«application_name») (w .host)
+  abbrev before : ℕ
+  before = together (w .user) (w .password) (w .dbname) (w .options) (w .«application_name») (w .host)
 
   adds-user : Adds 1
-  unfolding keptBytes shownBytes given keeps between
-  adds-user = let h : sum (w .password) (some v) (w .dbname) (w .options) (w .«application_name») (w .host) ≤ whole + length v = omega arith in h
+  unfolding keptBytes given keeps between
+  adds-user = let h : together (some v) (w .password) (w .dbname) (w .options) (w .«application_name») (w .host) ≤ before + length v = omega arith in h
 
   adds-password : Adds 2
-  unfolding keptBytes shownBytes given keeps between
-  adds-password = let h : sum (some v) (w .user) (w .dbname) (w .options) (w .«application_name») (w .host) ≤ whole + length v = omega arith in h
+  unfolding keptBytes given keeps between
+  adds-password = let h : together (w .user) (some v) (w .dbname) (w .options) (w .«application_name») (w .host) ≤ before + length v = omega arith in h
 
   adds-dbname : Adds 3
-  unfolding keptBytes shownBytes given keeps between
-  adds-dbname = let h : sum (w .password) (w .user) (some v) (w .options) (w .«application_name») (w .host) ≤ whole + length v = omega arith in h
+  unfolding keptBytes given keeps between
+  adds-dbname = let h : together (w .user) (w .password) (some v) (w .options) (w .«application_name») (w .host) ≤ before + length v = omega arith in h
 
   adds-options : Adds 4
-  unfolding keptBytes shownBytes given keeps between
-  adds-options = let h : sum (w .password) (w .user) (w .dbname) (some v) (w .«application_name») (w .host) ≤ whole + length v = omega arith in h
+  unfolding keptBytes given keeps between
+  adds-options = let h : together (w .user) (w .password) (w .dbname) (some v) (w .«application_name») (w .host) ≤ before + length v = omega arith in h
 
   adds-name : Adds 5
-  unfolding keptBytes shownBytes given keeps between
-  adds-name = let h : sum (w .password) (w .user) (w .dbname) (w .options) (some v) (w .host) ≤ whole + length v = omega arith in h
+  unfolding keptBytes given keeps between
+  adds-name = let h : together (w .user) (w .password) (w .dbname) (w .options) (some v) (w .host) ≤ before + length v = omega arith in h
 
   adds-hosts : Adds 8
-  unfolding keptBytes shownBytes given keeps between
-  adds-hosts = let h : sum (w .password) (w .user) (w .dbname) (w .options) (w .«application_name») (w .host ++ entriesOf (hostPieces v)) ≤ whole + length v = omega (arith, hosts-append (w .host) (entriesOf (hostPieces v)), pieces-bytes v) in h
+  unfolding keptBytes given keeps
+  adds-hosts =
+      let h : together (w .user) (w .password) (w .dbname) (w .options) (w .«application_name») (w .host ++ entriesOf (hostPieces v)) ≤ before + length v = omega (arith, hosts-append (w .host) (entriesOf (hostPieces v)), pieces-bytes v) in
+      h
 
   adds-host : Adds 20
-  unfolding keptBytes shownBytes given keeps between
-  adds-host = let h : sum (w .password) (w .user) (w .dbname) (w .options) (w .«application_name») (w .host ++ entriesOf (oneHostPiece v)) ≤ whole + length v = omega (arith, hosts-append (w .host) (entriesOf (oneHostPiece v)), one-bytes v) in h
+  unfolding keptBytes given keeps
+  adds-host =
+      let h : together (w .user) (w .password) (w .dbname) (w .options) (w .«application_name») (w .host ++ entriesOf (oneHostPiece v)) ≤ before + length v = omega (arith, hosts-append (w .host) (entriesOf (oneHostPiece v)), one-bytes v) in
+      h
 
   adds-none : (kind : ℕ) → eqb kind 1 ≡ false → eqb kind 2 ≡ false → eqb kind 3 ≡ false → eqb kind 4 ≡ false → eqb kind 5 ≡ false → eqb kind 8 ≡ false → eqb kind 20 ≡ false
       → Adds kind
-  unfolding keptBytes shownBytes given
+  unfolding keptBytes given
   adds-none kind a b c d e f g = rw (a, b, c, d, e, f, g) (omega arith)
 
   pub adds : (kind : ℕ) → Adds kind

@@ -22,7 +22,7 @@ use Rattle.setting.specs.Setting.{Setting, kindOf, valueOf}
 use Rattle.view.specs.Given.{entriesOf, portPieces, retriesGiven, refused, given, Told, plain, tellRefusal, told}
 use Rattle.view.proofs.Told.{told-end, told-on, told-off}
 use Rattle.reader.specs.Reader.{keeps, kept}
-use Rattle.telling.specs.Bound.{hostBytes, shownBytes, All, Maybe}
+use Rattle.telling.specs.Bound.{hostBytes, All, Maybe}
 use Rattle.demands.specs.Giving.{joined}
 use Rattle.limits.specs.Limits.{keptBytes}
 use Rattle.limits.proofs.Sum.{adds}
@@ -44,7 +44,7 @@ pub within-more : (n m : ℕ) (w : Values) → n ≤ m → Within n w → Within
 within-more n m w l h = record { bytes = omega (arith, h .bytes); port = h .port; retries = h .retries }
 
 pub within-plain : Within 0 plain
-unfolding shown defaults keptBytes shownBytes hostBytes
+unfolding shown defaults keptBytes hostBytes
 within-plain = record { bytes = omega arith; port = tt; retries = tt }
 
 -- ports

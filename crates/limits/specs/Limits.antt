@@ -4,24 +4,29 @@ use Prim.Native.Nat.{ℕ, _+_, _^_, _<_, _≤_}
 use mathlib.Core.Path.{_≡_}
 use mathlib.Core.Bool.{true, false}
 use mathlib.Core.List.{List}
+use mathlib.Core.Option.{Option}
 use mathlib.Core.Logic.{_↔_}
 use lib.ListN.{length}
 use Rattle.byte.specs.Put.{written}
 use Rattle.config.specs.declared.Config.{Config}
-use Rattle.config.specs.Values.{Values, shown}
+use Rattle.config.specs.Values.{HostValue, Values, shown}
 use Rattle.config.specs.Sound.{sound}
 use Rattle.reader.specs.Reader.{reading, answer, left}
 use Rattle.report.specs.declared.Answer.{Answer}
 use Rattle.report.specs.Report.{report}
 use Rattle.report.specs.Answer.{reported}
-use Rattle.telling.specs.Bound.{textBytes, shownBytes}
+use Rattle.telling.specs.Bound.{textBytes, hostBytes}
 use Rattle.demands.specs.Giving.{joined}
 use Rattle.dock.specs.Entry.{entry, entryLeft}
 use Rattle.dock.specs.Places.{textOf, somewhere, place}
 
--- how many bytes the kept values have that are still shown: those that a report shows, and the password's
+-- "Kept values are those of user, password, dbname, options, application_name and host": how many bytes they have
+abbrev pub together : Option (List ℕ) → Option (List ℕ) → Option (List ℕ) → Option (List ℕ) → Option (List ℕ) → List HostValue → ℕ
+together user password dbname options name hosts =
+    textBytes user + textBytes password + textBytes dbname + textBytes options + textBytes name + hostBytes hosts
+
 unfoldable pub keptBytes : Values → ℕ
-keptBytes v = textBytes (v .password) + shownBytes v
+keptBytes v = together (v .user) (v .password) (v .dbname) (v .options) (v .«application_name») (v .host)
 
 -- no report of a text is longer
 abbrev pub reportMost : ℕ
