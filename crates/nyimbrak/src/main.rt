@@ -1,11 +1,15 @@
 // Reads one text from standard input, and writes the report of its settings or `refused` and the number.
+ghost use Prim.Native.Nat.{_≤_};
 use libc::STDIN_FILENO;
 use libc::STDOUT_FILENO;
 
 // What a refusal's number is added to where the report's length might stand.
 const REFUSED: u32 = 1000000;
 
-fn write_refusal(number: u64) {
+// A text is refused, never a report: the report has room, and the record that was read lies in its buffer.
+fn write_refusal(number: u64)
+    requires { ⌜ number ≤ 15 ⌝ }
+{
     io::write_all(STDOUT_FILENO, b"refused ");
     io::print_decimal(STDOUT_FILENO, number);
     io::write_all(STDOUT_FILENO, b"\n");
