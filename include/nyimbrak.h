@@ -19,7 +19,7 @@ extern "C" {
 
 /* The longest text, in bytes. A decode buffer as long as the text is always enough. */
 #define NYIMBRAK_TEXT_MOST 4096
-/* The longest report of texts that have 4,096 bytes together. */
+/* No report is longer: a report buffer of so many bytes is always enough. */
 #define NYIMBRAK_REPORT_MOST 13795
 /* The most hosts, hostaddrs and ports, each. */
 #define NYIMBRAK_LIST_MOST 16
@@ -42,8 +42,8 @@ enum nyimbrak_number {
     NYIMBRAK_TOO_MANY_HOSTS = 13,    /* a 17th host */
     NYIMBRAK_TOO_MANY_HOSTADDRS = 14, /* a 17th hostaddr */
     NYIMBRAK_TOO_MANY_PORTS = 15,    /* a 17th port */
-    NYIMBRAK_REPORT_TOO_SHORT = 16,  /* the report buffer is too short */
-    NYIMBRAK_RECORD_UNSOUND = 17     /* a record that lies outside its buffer: no text leads to one */
+    NYIMBRAK_REPORT_TOO_SHORT = 16,  /* the text is accepted, and the report buffer is shorter than its report */
+    NYIMBRAK_RECORD_UNSOUND = 17     /* a record that lies outside its buffer: none of these functions ever answers it */
 };
 
 /* The keys that hold a text. */
@@ -62,8 +62,7 @@ enum nyimbrak_key {
 
 /* Reads a text and writes its report: one line `key=value` for each setting, a set password as `_`. Answers the report's length,
  * or NYIMBRAK_REFUSED plus the number of the refusal. Bytes of the report buffer behind the report stay as they were, and no
- * refusal touches any. Of a report buffer longer than 999,999 bytes only the first 999,999 are used, so that no length is ever
- * taken for a refusal. */
+ * refusal touches any. No report is longer than NYIMBRAK_REPORT_MOST, so no length is ever taken for a refusal. */
 #define NYIMBRAK_REFUSED 1000000u
 uint32_t nyimbrak_read(const uint8_t *text, size_t text_len, uint8_t *decode, size_t decode_len,
                        uint8_t *report, size_t report_len);
