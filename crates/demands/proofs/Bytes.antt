@@ -30,7 +30,7 @@ use Rattle.url.specs.Step.{url, valueIn}
 use Rattle.url.specs.Uri.{uri}
 use Rattle.url.proofs.Reading.{reading-start}
 use Rattle.telling.specs.Bound.{All}
-use Rattle.telling.specs.Hidden.{Bytes}
+use Rattle.telling.specs.Ranged.{Bytes}
 use Rattle.telling.proofs.Shown.{all-take, all-drop}
 use Rattle.reader.specs.Reader.{reading}
 use Rattle.reader.specs.Steps.{nextAt, valueAt}

@@ -1,40 +1,25 @@
 -- Demand 3's first half on reports: "into report buffers of one length, so is the report".
 -- Assumes nothing.
 use Prim.Native.Nat.{ℕ}
-use mathlib.Core.Path.{_≡_, refl, sym, ap, _∙_}
-use mathlib.Core.List.{List, []}
-use mathlib.Core.Option.{Option, some, none}
+use mathlib.Core.Path.{_≡_}
+use mathlib.Core.List.{List}
 use lib.Dec.{leb}
 use lib.ListN.{length}
 use Rattle.byte.specs.Byte.{pick}
 use Rattle.byte.specs.Put.{written}
-use Rattle.config.specs.Values.{Values, shown}
-use Rattle.view.specs.Hidden as View
+use Rattle.config.specs.Values.{shown}
 use Rattle.report.specs.declared.Answer.{Answer}
 use Rattle.report.specs.Report.{report}
 use Rattle.report.specs.Answer.{reported, reportedInto}
-use Rattle.telling.specs.Hidden as Telling
 use Rattle.telling.proofs.Told as Told
 use Rattle.reader.specs.Reader.{reading, answer, left}
 use Rattle.demands.specs.Blind.{Readable, Alike}
 use Rattle.demands.proofs.Shows.{read-sound}
 use Rattle.demands.proofs.Blind.{blind}
 
--- both ways to take a password's value away are one
-same-veiled : (p : Option (List ℕ)) → View.onlySet p ≡ Telling.veiled p
-same-veiled none = refl
-same-veiled (some x) = refl
-
-pub same-hidden : (w : Values) → View.hidden w ≡ Telling.hidden w
-unfolding Telling.hidden View.hidden
-same-hidden w = rw (same-veiled (w .password))
-
-hidden-same : (v w : Values) → View.hidden v ≡ View.hidden w → report v ≡ report w
-hidden-same v w e = Told.blind v w (sym (same-hidden v) ∙ e ∙ same-hidden w)
-
 module _ (s t d e : List ℕ) (r : Readable s d) (q : Readable t e) (a : Alike (reading s) (reading t)) where
   pub same-report : report (shown (left s d) (answer s (length d) .config)) ≡ report (shown (left t e) (answer t (length e) .config))
-  same-report = hidden-same _ _ (blind s t d e r q a .values)
+  same-report = Told.blind _ _ (blind s t d e r q a .values)
 
   -- the report function answers the same for buffers of one length
   pub same-answer : (n : ℕ) → reported (left s d) (answer s (length d) .config) n ≡ reported (left t e) (answer t (length e) .config) n

@@ -1,7 +1,7 @@
 -- Demand 3's second half over texts, and the whole of it: two accepted texts with room for their reports give equal reports exactly when every setting shown is equal.
 -- Assumes nothing.
 use Prim.Native.Nat.{ℕ}
-use mathlib.Core.Path.{_≡_, refl, sym, ap, subst, _∙_}
+use mathlib.Core.Path.{_≡_, refl, sym, ap, _∙_}
 use mathlib.Core.Bool.{Bool, true, false}
 use mathlib.Core.List.{List, []}
 use native.Mathlib.Omega.{arith}
@@ -25,7 +25,7 @@ use Rattle.demands.specs.Blind.{Readable, Alike}
 use Rattle.demands.specs.Telling.{Run, ran, reportIn, reportOf, Reported, SameReport, Telling, DemandThree}
 use Rattle.demands.proofs.Shows.{read-sound}
 use Rattle.demands.proofs.Blind.{blind}
-use Rattle.demands.proofs.Reports.{same-hidden, same-report, same-answer}
+use Rattle.demands.proofs.Reports.{same-report, same-answer}
 use Rattle.demands.proofs.InRange.{read-ranged}
 
 -- an accepted text is UTF-8 within the limits, and its buffer long enough
@@ -80,10 +80,8 @@ module _ (s d p t e q : List ℕ) where
   telling-texts g h =
       let x : reportOf (ran s d p) ≡ report (shows s d) = report-is s d p g in
       let y : reportOf (ran t e q) ≡ report (shows t e) = report-is t e q h in
-      let k = telling (shows s d) (shows t e) (read-ranged s d (accepted-readable s d (g .accepted))) (read-ranged t e (accepted-readable t e (h .accepted))) in (
-        (λ z. same-hidden (shows s d) ∙ k .0 (sym x ∙ z ∙ y) ∙ sym (same-hidden (shows t e))),
-        (λ z. x ∙ k .1 (sym (same-hidden (shows s d)) ∙ z ∙ same-hidden (shows t e)) ∙ sym y),
-      )
+      let k = telling (shows s d) (shows t e) (read-ranged s d (accepted-readable s d (g .accepted))) (read-ranged t e (accepted-readable t e (h .accepted))) in
+      ((λ z. k .0 (sym x ∙ z ∙ y)), (λ z. x ∙ k .1 z ∙ sym y))
 
   module _ (r : Readable s d) (k : Readable t e) (a : Alike (reading s) (reading t)) (l : length p ≡ length q) where
     one-report : SameReport (ran s d p) (ran t e q)

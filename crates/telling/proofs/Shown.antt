@@ -20,7 +20,7 @@ use Rattle.config.specs.declared.Config.{Config}
 use Rattle.config.specs.Values.{placeShown, textShown, kindShown, hostShown, hostsShown, portsShown, shown}
 use Rattle.config.specs.Sound.{counted}
 use Rattle.telling.specs.Bound.{All, Maybe, Sized}
-use Rattle.telling.specs.Hidden.{Bytes, Small, NamedBytes, HostsBytes, Ranged}
+use Rattle.telling.specs.Ranged.{Bytes, Small, NamedBytes, HostsBytes, Ranged}
 use Rattle.telling.specs.Typed.{Typed}
 
 -- a part of a list of bytes

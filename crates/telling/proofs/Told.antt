@@ -25,9 +25,10 @@ use Rattle.config.specs.declared.TargetSessionAttrs.{TargetSessionAttrs}
 use Rattle.config.specs.declared.ChannelBinding.{ChannelBinding}
 use Rattle.config.specs.declared.LoadBalanceHosts.{LoadBalanceHosts}
 use Rattle.config.specs.Values.{HostValue, tcp, unix, Values}
+use Rattle.view.specs.Hidden.{onlySet, hidden}
 use Rattle.report.specs.Report.{values, report}
 use Rattle.telling.specs.Bound.{All, Maybe}
-use Rattle.telling.specs.Hidden.{veiled, hidden, Bytes, Small, HostsBytes, SmallAddresses, Ranged}
+use Rattle.telling.specs.Ranged.{Bytes, Small, HostsBytes, SmallAddresses, Ranged}
 use Rattle.telling.specs.ReadBack.{valuesOf, firstBack, onlyBack, modeBack, negotiationBack, targetBack, bindingBack, balanceBack, textBack, hostBack, numberBack, addressBack, switchBack, rowsBack, readBack}
 use Rattle.telling.proofs.Free.{word-end, text-end, secret-end, number-end, named-end, kind-all-end}
 use Rattle.telling.proofs.Rows.{FreeValues, FreeAll, values-back}
@@ -91,7 +92,7 @@ module _ {A : Type 0} (f : A → List (List ℕ)) (g : List ℕ → A) where
   option-back p back none h = refl
   option-back p back (some x) h = ap some (back x h)
 
-secret-back : (t : Option (List ℕ)) → firstBack {A = List ℕ} (λ (x : List ℕ). []) (map joined (optional (λ (x : List ℕ). secretValue) t)) ≡ veiled t
+secret-back : (t : Option (List ℕ)) → firstBack {A = List ℕ} (λ (x : List ℕ). []) (map joined (optional (λ (x : List ℕ). secretValue) t)) ≡ onlySet t
 secret-back none = refl
 secret-back (some x) = refl
 
@@ -233,7 +234,7 @@ module _ (v : Values) (r : Ranged v) where
       }
 
 -- A report shows no more than that: the password's value is not in it.
-veil-shown : (t : Option (List ℕ)) → optional (λ (x : List ℕ). secretValue) (veiled t) ≡ optional (λ (x : List ℕ). secretValue) t
+veil-shown : (t : Option (List ℕ)) → optional (λ (x : List ℕ). secretValue) (onlySet t) ≡ optional (λ (x : List ℕ). secretValue) t
 veil-shown none = refl
 veil-shown (some x) = refl
 

@@ -1,4 +1,4 @@
 pub mod Bound
-pub mod Hidden
+pub mod Ranged
 pub mod ReadBack
 pub mod Typed

@@ -4,7 +4,7 @@ use Prim.Native.Nat.{ℕ, _^_, _<_}
 use Rattle.config.specs.declared.Config.{Config}
 use Rattle.config.specs.Values.{addressesShown, portsShown}
 use Rattle.telling.specs.Bound.{All}
-use Rattle.telling.specs.Hidden.{Small, SmallAddresses}
+use Rattle.telling.specs.Ranged.{Small, SmallAddresses}
 
 pub record Typed (c : Config) : Type 0 where
   pub hostaddr : SmallAddresses (addressesShown (c .hostaddr))

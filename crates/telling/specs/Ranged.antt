@@ -1,41 +1,11 @@
--- What a report tells: all that is shown, of the password only whether it is set. And the values that a record of numbers and bytes shows.
+-- The values that a record of numbers and bytes shows.
 -- Assumes nothing.
 use Prim.Native.Nat.{ℕ, _^_, _<_}
 use mathlib.Core.List.{List, [], _∷_}
-use mathlib.Core.Option.{Option, some, none}
 use Rattle.address.specs.declared.Kind.{Kind}
 use Rattle.address.specs.declared.Address.{Address}
 use Rattle.config.specs.Values.{HostValue, tcp, unix, Values}
 use Rattle.telling.specs.Bound.{All, Maybe}
-
--- a text of which only is told whether it is set
-abbrev pub veiled : Option (List ℕ) → Option (List ℕ)
-veiled none = none
-veiled (some x) = some []
-
-unfoldable pub hidden : Values → Values
-hidden v =
-    record {
-      user = v .user;
-      password = veiled (v .password);
-      dbname = v .dbname;
-      options = v .options;
-      «application_name» = v .«application_name»;
-      «ssl_mode» = v .«ssl_mode»;
-      «ssl_negotiation» = v .«ssl_negotiation»;
-      host = v .host;
-      hostaddr = v .hostaddr;
-      port = v .port;
-      «connect_timeout» = v .«connect_timeout»;
-      «tcp_user_timeout» = v .«tcp_user_timeout»;
-      keepalives = v .keepalives;
-      «keepalives_idle» = v .«keepalives_idle»;
-      «keepalives_interval» = v .«keepalives_interval»;
-      «keepalives_retries» = v .«keepalives_retries»;
-      «target_session_attrs» = v .«target_session_attrs»;
-      «channel_binding» = v .«channel_binding»;
-      «load_balance_hosts» = v .«load_balance_hosts»;
-    }
 
 -- bytes, and numbers of 64 bits
 abbrev pub Bytes : List ℕ → Type 0
