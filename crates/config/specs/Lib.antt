@@ -1,3 +1,4 @@
 pub mod Config
 pub mod Values
 pub mod Sound
+pub mod Plain
