@@ -43,7 +43,7 @@ unfolding applied
 unknown kind v start c h = rw (unlisted kind v start c h)
 
 -- a number that is none of 1 to n
-abbrev None : ℕ → ℕ → Type 0
+abbrev pub None : ℕ → ℕ → Type 0
 None zero kind = Unit
 None (suc n) kind = None n kind × (kind ≡ suc n → ⊥)
 
