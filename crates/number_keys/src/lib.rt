@@ -2,9 +2,10 @@
 // Nothing of such a value is kept, so a promise holds for whatever place it stands at.
 ghost use mathlib.Core.Path.{_≡_};
 ghost use Prim.Native.Nat.{ℕ};
-ghost use Rattle.apply.specs.Apply.{secondsOf, secondsIn, timeOf, applied};
-use apply::Applied;
-use config::Config;
+ghost use Rattle.apply.specs.Apply.{secondsOf, secondsIn, timeOf};
+ghost use Rattle.apply.specs.Plain.{Applies};
+use apply::AppliedPlain;
+use config::Plain;
 use config::Retries;
 use config::Seconds;
 use lists::Fault;
@@ -47,140 +48,140 @@ fn time_of(old: Seconds, seconds: u64) -> Seconds
 }
 
 // Key 11, connect_timeout.
-pub fn put_connect_timeout(c: Config, v: &[u8]) -> Applied
-    ensures { λ r. ⌜ ((start : ℕ) → r ≡ applied 11 (now (v .entry)) start c) ⌝ }
+pub fn put_connect_timeout(p: Plain, v: &[u8]) -> AppliedPlain
+    ensures { λ r. ⌜ ((start : ℕ) → Applies 11 (now (v .entry)) start p r) ⌝ }
 {
     match read_seconds(v) {
         Number::Is(n) => {
-            let old = c.connect_timeout;
+            let old = p.connect_timeout;
             let time = time_of(old, n);
-            let mut next = c;
+            let mut next = p;
             next.connect_timeout = time;
-            Applied {
+            AppliedPlain {
                 fault: Fault::NoFault,
-                config: next,
+                plain: next,
             }
         }
-        Number::Form => Applied {
+        Number::Form => AppliedPlain {
             fault: Fault::Form,
-            config: c,
+            plain: p,
         },
-        Number::Range => Applied {
+        Number::Range => AppliedPlain {
             fault: Fault::Range,
-            config: c,
+            plain: p,
         },
     }
 }
 
 // Key 12, tcp_user_timeout.
-pub fn put_tcp_user_timeout(c: Config, v: &[u8]) -> Applied
-    ensures { λ r. ⌜ ((start : ℕ) → r ≡ applied 12 (now (v .entry)) start c) ⌝ }
+pub fn put_tcp_user_timeout(p: Plain, v: &[u8]) -> AppliedPlain
+    ensures { λ r. ⌜ ((start : ℕ) → Applies 12 (now (v .entry)) start p r) ⌝ }
 {
     match read_seconds(v) {
         Number::Is(n) => {
-            let old = c.tcp_user_timeout;
+            let old = p.tcp_user_timeout;
             let time = time_of(old, n);
-            let mut next = c;
+            let mut next = p;
             next.tcp_user_timeout = time;
-            Applied {
+            AppliedPlain {
                 fault: Fault::NoFault,
-                config: next,
+                plain: next,
             }
         }
-        Number::Form => Applied {
+        Number::Form => AppliedPlain {
             fault: Fault::Form,
-            config: c,
+            plain: p,
         },
-        Number::Range => Applied {
+        Number::Range => AppliedPlain {
             fault: Fault::Range,
-            config: c,
+            plain: p,
         },
     }
 }
 
 // Key 13, keepalives: zero is off.
-pub fn put_keepalives(c: Config, v: &[u8]) -> Applied
-    ensures { λ r. ⌜ ((start : ℕ) → r ≡ applied 13 (now (v .entry)) start c) ⌝ }
+pub fn put_keepalives(p: Plain, v: &[u8]) -> AppliedPlain
+    ensures { λ r. ⌜ ((start : ℕ) → Applies 13 (now (v .entry)) start p r) ⌝ }
 {
     match number::read_unsigned(v, 0xffff_ffff_ffff_ffff) {
         Number::Is(n) => {
-            let mut next = c;
+            let mut next = p;
             next.keepalives = 0 < n;
-            Applied {
+            AppliedPlain {
                 fault: Fault::NoFault,
-                config: next,
+                plain: next,
             }
         }
-        Number::Form => Applied {
+        Number::Form => AppliedPlain {
             fault: Fault::Form,
-            config: c,
+            plain: p,
         },
-        Number::Range => Applied {
+        Number::Range => AppliedPlain {
             fault: Fault::Range,
-            config: c,
+            plain: p,
         },
     }
 }
 
 // Key 14, keepalives_idle: a time that is never unset.
-pub fn put_keepalives_idle(c: Config, v: &[u8]) -> Applied
-    ensures { λ r. ⌜ ((start : ℕ) → r ≡ applied 14 (now (v .entry)) start c) ⌝ }
+pub fn put_keepalives_idle(p: Plain, v: &[u8]) -> AppliedPlain
+    ensures { λ r. ⌜ ((start : ℕ) → Applies 14 (now (v .entry)) start p r) ⌝ }
 {
     match read_seconds(v) {
         Number::Is(n) => {
             if n == 0 {
-                return Applied {
+                return AppliedPlain {
                     fault: Fault::NoFault,
-                    config: c,
+                    plain: p,
                 };
             }
-            let mut next = c;
+            let mut next = p;
             next.keepalives_idle = n;
-            Applied {
+            AppliedPlain {
                 fault: Fault::NoFault,
-                config: next,
+                plain: next,
             }
         }
-        Number::Form => Applied {
+        Number::Form => AppliedPlain {
             fault: Fault::Form,
-            config: c,
+            plain: p,
         },
-        Number::Range => Applied {
+        Number::Range => AppliedPlain {
             fault: Fault::Range,
-            config: c,
+            plain: p,
         },
     }
 }
 
 // Key 15, keepalives_interval.
-pub fn put_keepalives_interval(c: Config, v: &[u8]) -> Applied
-    ensures { λ r. ⌜ ((start : ℕ) → r ≡ applied 15 (now (v .entry)) start c) ⌝ }
+pub fn put_keepalives_interval(p: Plain, v: &[u8]) -> AppliedPlain
+    ensures { λ r. ⌜ ((start : ℕ) → Applies 15 (now (v .entry)) start p r) ⌝ }
 {
     match read_seconds(v) {
         Number::Is(n) => {
-            let old = c.keepalives_interval;
+            let old = p.keepalives_interval;
             let time = time_of(old, n);
-            let mut next = c;
+            let mut next = p;
             next.keepalives_interval = time;
-            Applied {
+            AppliedPlain {
                 fault: Fault::NoFault,
-                config: next,
+                plain: next,
             }
         }
-        Number::Form => Applied {
+        Number::Form => AppliedPlain {
             fault: Fault::Form,
-            config: c,
+            plain: p,
         },
-        Number::Range => Applied {
+        Number::Range => AppliedPlain {
             fault: Fault::Range,
-            config: c,
+            plain: p,
         },
     }
 }
 
 // Key 16, keepalives_retries.
-pub fn put_keepalives_retries(c: Config, v: &[u8]) -> Applied
-    ensures { λ r. ⌜ ((start : ℕ) → r ≡ applied 16 (now (v .entry)) start c) ⌝ }
+pub fn put_keepalives_retries(p: Plain, v: &[u8]) -> AppliedPlain
+    ensures { λ r. ⌜ ((start : ℕ) → Applies 16 (now (v .entry)) start p r) ⌝ }
 {
     match number::read_u32(v) {
         Number32::Is(n) => {
@@ -188,20 +189,20 @@ pub fn put_keepalives_retries(c: Config, v: &[u8]) -> Applied
                 set: true,
                 retries: n,
             };
-            let mut next = c;
+            let mut next = p;
             next.keepalives_retries = retries;
-            Applied {
+            AppliedPlain {
                 fault: Fault::NoFault,
-                config: next,
+                plain: next,
             }
         }
-        Number32::Form => Applied {
+        Number32::Form => AppliedPlain {
             fault: Fault::Form,
-            config: c,
+            plain: p,
         },
-        Number32::Range => Applied {
+        Number32::Range => AppliedPlain {
             fault: Fault::Range,
-            config: c,
+            plain: p,
         },
     }
 }

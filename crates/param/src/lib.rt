@@ -1,11 +1,15 @@
 // One setting applied to a record: the keys whose values are kept, the lists, and `param`, which knows every key's number.
 ghost use mathlib.Core.Path.{_≡_};
 ghost use Prim.Native.Nat.{ℕ};
+ghost use mathlib.Core.Bool.{false};
 ghost use Rattle.byte.specs.Byte.{partOf};
 ghost use Rattle.names.specs.Find.{keyNumber};
 ghost use Rattle.apply.specs.Apply.{text, applied};
+ghost use Rattle.apply.specs.Plain.{Applies, isList, AppliesPlain};
 use apply::Applied;
+use apply::AppliedPlain;
 use config::Config;
+use config::Plain;
 use config::Text;
 use lists::Fault;
 use lists::Place;
@@ -25,67 +29,95 @@ fn text_at(v: &[u8], start: usize) -> Text
 }
 
 // Key 1, user.
-fn put_user(c: Config, v: &[u8], start: usize) -> Applied
-    ensures { λ r. ⌜ r ≡ applied 1 (now (v .entry)) start c ⌝ }
+fn put_user(p: Plain, v: &[u8], start: usize) -> AppliedPlain
+    ensures { λ r. ⌜ Applies 1 (now (v .entry)) start p r ⌝ }
 {
     let text = text_at(v, start);
-    let mut next = c;
+    let mut next = p;
     next.user = text;
-    Applied {
+    AppliedPlain {
         fault: Fault::NoFault,
-        config: next,
+        plain: next,
     }
 }
 
 // Key 2, password.
-fn put_password(c: Config, v: &[u8], start: usize) -> Applied
-    ensures { λ r. ⌜ r ≡ applied 2 (now (v .entry)) start c ⌝ }
+fn put_password(p: Plain, v: &[u8], start: usize) -> AppliedPlain
+    ensures { λ r. ⌜ Applies 2 (now (v .entry)) start p r ⌝ }
 {
     let text = text_at(v, start);
-    let mut next = c;
+    let mut next = p;
     next.password = text;
-    Applied {
+    AppliedPlain {
         fault: Fault::NoFault,
-        config: next,
+        plain: next,
     }
 }
 
 // Key 3, dbname.
-fn put_dbname(c: Config, v: &[u8], start: usize) -> Applied
-    ensures { λ r. ⌜ r ≡ applied 3 (now (v .entry)) start c ⌝ }
+fn put_dbname(p: Plain, v: &[u8], start: usize) -> AppliedPlain
+    ensures { λ r. ⌜ Applies 3 (now (v .entry)) start p r ⌝ }
 {
     let text = text_at(v, start);
-    let mut next = c;
+    let mut next = p;
     next.dbname = text;
-    Applied {
+    AppliedPlain {
         fault: Fault::NoFault,
-        config: next,
+        plain: next,
     }
 }
 
 // Key 4, options.
-fn put_options(c: Config, v: &[u8], start: usize) -> Applied
-    ensures { λ r. ⌜ r ≡ applied 4 (now (v .entry)) start c ⌝ }
+fn put_options(p: Plain, v: &[u8], start: usize) -> AppliedPlain
+    ensures { λ r. ⌜ Applies 4 (now (v .entry)) start p r ⌝ }
 {
     let text = text_at(v, start);
-    let mut next = c;
+    let mut next = p;
     next.options = text;
-    Applied {
+    AppliedPlain {
         fault: Fault::NoFault,
-        config: next,
+        plain: next,
     }
 }
 
 // Key 5, application_name.
-fn put_application_name(c: Config, v: &[u8], start: usize) -> Applied
-    ensures { λ r. ⌜ r ≡ applied 5 (now (v .entry)) start c ⌝ }
+fn put_application_name(p: Plain, v: &[u8], start: usize) -> AppliedPlain
+    ensures { λ r. ⌜ Applies 5 (now (v .entry)) start p r ⌝ }
 {
     let text = text_at(v, start);
-    let mut next = c;
+    let mut next = p;
     next.application_name = text;
-    Applied {
+    AppliedPlain {
         fault: Fault::NoFault,
-        config: next,
+        plain: next,
+    }
+}
+
+// Applies the setting of a kind to a record without its lists; the kinds of the lists are refused as unknown.
+pub fn param_plain(p: Plain, kind: usize, v: &[u8], start: usize) -> AppliedPlain
+    ensures { λ r. ⌜ AppliesPlain kind (now (v .entry)) start p r ⌝ }
+{
+    match kind {
+        1 => put_user(p, v, start),
+        2 => put_password(p, v, start),
+        3 => put_dbname(p, v, start),
+        4 => put_options(p, v, start),
+        5 => put_application_name(p, v, start),
+        6 => word_keys::put_ssl_mode(p, v),
+        7 => word_keys::put_ssl_negotiation(p, v),
+        11 => number_keys::put_connect_timeout(p, v),
+        12 => number_keys::put_tcp_user_timeout(p, v),
+        13 => number_keys::put_keepalives(p, v),
+        14 => number_keys::put_keepalives_idle(p, v),
+        15 => number_keys::put_keepalives_interval(p, v),
+        16 => number_keys::put_keepalives_retries(p, v),
+        17 => word_keys::put_target_session_attrs(p, v),
+        18 => word_keys::put_channel_binding(p, v),
+        19 => word_keys::put_load_balance_hosts(p, v),
+        _ => AppliedPlain {
+            fault: Fault::UnknownKey,
+            plain: p,
+        },
     }
 }
 
@@ -177,36 +209,34 @@ fn put_ports(c: Config, v: &[u8]) -> Applied
     }
 }
 
+// A setting that changes no list, applied to the whole record.
+fn put_plain(c: Config, kind: usize, v: &[u8], start: usize) -> Applied
+    ensures { λ r. ⌜ (isList kind ≡ false → r ≡ applied kind (now (v .entry)) start c) ⌝ }
+{
+    let a = param_plain(config::plain_of(c), kind, v, start);
+    let fault = a.fault;
+    let plain = a.plain;
+    let host = c.host;
+    let hostaddr = c.hostaddr;
+    let port = c.port;
+    let config = config::join(plain, host, hostaddr, port);
+    Applied {
+        fault: fault,
+        config: config,
+    }
+}
+
 // Applies the setting of a kind (1 to 19 its key, 20 one host from a URI) whose value is the part of the buffer from `start` up to `end`.
 pub fn param(c: Config, kind: usize, buffer: &[u8], start: usize, end: usize) -> Applied
     ensures { λ r. ⌜ r ≡ applied kind (partOf start end (now (buffer .entry))) start c ⌝ }
 {
     let v = byte::part(buffer, start, end);
     match kind {
-        1 => put_user(c, v, start),
-        2 => put_password(c, v, start),
-        3 => put_dbname(c, v, start),
-        4 => put_options(c, v, start),
-        5 => put_application_name(c, v, start),
-        6 => word_keys::put_ssl_mode(c, v),
-        7 => word_keys::put_ssl_negotiation(c, v),
         8 => put_hosts(c, buffer, start, end),
         9 => put_hostaddrs(c, v),
         10 => put_ports(c, v),
-        11 => number_keys::put_connect_timeout(c, v),
-        12 => number_keys::put_tcp_user_timeout(c, v),
-        13 => number_keys::put_keepalives(c, v),
-        14 => number_keys::put_keepalives_idle(c, v),
-        15 => number_keys::put_keepalives_interval(c, v),
-        16 => number_keys::put_keepalives_retries(c, v),
-        17 => word_keys::put_target_session_attrs(c, v),
-        18 => word_keys::put_channel_binding(c, v),
-        19 => word_keys::put_load_balance_hosts(c, v),
         20 => put_host(c, buffer, start, end),
-        _ => Applied {
-            fault: Fault::UnknownKey,
-            config: c,
-        },
+        _ => put_plain(c, kind, v, start),
     }
 }
 

@@ -2,13 +2,14 @@
 // Nothing of such a value is kept, so a promise holds for whatever place it stands at.
 ghost use mathlib.Core.Path.{_≡_};
 ghost use Prim.Native.Nat.{ℕ};
-ghost use Rattle.apply.specs.Apply.{sslModeOf, sslNegotiationOf, targetSessionAttrsOf, channelBindingOf, loadBalanceHostsOf, applied};
-use apply::Applied;
+ghost use Rattle.apply.specs.Apply.{sslModeOf, sslNegotiationOf, targetSessionAttrsOf, channelBindingOf, loadBalanceHostsOf};
+ghost use Rattle.apply.specs.Plain.{Applies};
+use apply::AppliedPlain;
 use config::ChannelBinding;
 use config::ChannelBindingWord;
-use config::Config;
 use config::LoadBalanceHosts;
 use config::LoadBalanceHostsWord;
+use config::Plain;
 use config::SslMode;
 use config::SslModeWord;
 use config::SslNegotiation;
@@ -29,23 +30,23 @@ fn word_of_ssl_mode(n: usize) -> SslMode
 }
 
 // Key 6, sslmode.
-pub fn put_ssl_mode(c: Config, v: &[u8]) -> Applied
-    ensures { λ r. ⌜ ((start : ℕ) → r ≡ applied 6 (now (v .entry)) start c) ⌝ }
+pub fn put_ssl_mode(p: Plain, v: &[u8]) -> AppliedPlain
+    ensures { λ r. ⌜ ((start : ℕ) → Applies 6 (now (v .entry)) start p r) ⌝ }
 {
     let n = names::word_number(6, v);
     if n == 0 {
-        return Applied {
+        return AppliedPlain {
             fault: Fault::Word,
-            config: c,
+            plain: p,
         };
     }
     let word = word_of_ssl_mode(n);
     let set = SslModeWord { word: word };
-    let mut next = c;
+    let mut next = p;
     next.ssl_mode = set;
-    Applied {
+    AppliedPlain {
         fault: Fault::NoFault,
-        config: next,
+        plain: next,
     }
 }
 
@@ -60,23 +61,23 @@ fn word_of_ssl_negotiation(n: usize) -> SslNegotiation
 }
 
 // Key 7, sslnegotiation.
-pub fn put_ssl_negotiation(c: Config, v: &[u8]) -> Applied
-    ensures { λ r. ⌜ ((start : ℕ) → r ≡ applied 7 (now (v .entry)) start c) ⌝ }
+pub fn put_ssl_negotiation(p: Plain, v: &[u8]) -> AppliedPlain
+    ensures { λ r. ⌜ ((start : ℕ) → Applies 7 (now (v .entry)) start p r) ⌝ }
 {
     let n = names::word_number(7, v);
     if n == 0 {
-        return Applied {
+        return AppliedPlain {
             fault: Fault::Word,
-            config: c,
+            plain: p,
         };
     }
     let word = word_of_ssl_negotiation(n);
     let set = SslNegotiationWord { word: word };
-    let mut next = c;
+    let mut next = p;
     next.ssl_negotiation = set;
-    Applied {
+    AppliedPlain {
         fault: Fault::NoFault,
-        config: next,
+        plain: next,
     }
 }
 
@@ -92,23 +93,23 @@ fn word_of_target_session_attrs(n: usize) -> TargetSessionAttrs
 }
 
 // Key 17, target_session_attrs.
-pub fn put_target_session_attrs(c: Config, v: &[u8]) -> Applied
-    ensures { λ r. ⌜ ((start : ℕ) → r ≡ applied 17 (now (v .entry)) start c) ⌝ }
+pub fn put_target_session_attrs(p: Plain, v: &[u8]) -> AppliedPlain
+    ensures { λ r. ⌜ ((start : ℕ) → Applies 17 (now (v .entry)) start p r) ⌝ }
 {
     let n = names::word_number(17, v);
     if n == 0 {
-        return Applied {
+        return AppliedPlain {
             fault: Fault::Word,
-            config: c,
+            plain: p,
         };
     }
     let word = word_of_target_session_attrs(n);
     let set = TargetSessionAttrsWord { word: word };
-    let mut next = c;
+    let mut next = p;
     next.target_session_attrs = set;
-    Applied {
+    AppliedPlain {
         fault: Fault::NoFault,
-        config: next,
+        plain: next,
     }
 }
 
@@ -124,23 +125,23 @@ fn word_of_channel_binding(n: usize) -> ChannelBinding
 }
 
 // Key 18, channel_binding.
-pub fn put_channel_binding(c: Config, v: &[u8]) -> Applied
-    ensures { λ r. ⌜ ((start : ℕ) → r ≡ applied 18 (now (v .entry)) start c) ⌝ }
+pub fn put_channel_binding(p: Plain, v: &[u8]) -> AppliedPlain
+    ensures { λ r. ⌜ ((start : ℕ) → Applies 18 (now (v .entry)) start p r) ⌝ }
 {
     let n = names::word_number(18, v);
     if n == 0 {
-        return Applied {
+        return AppliedPlain {
             fault: Fault::Word,
-            config: c,
+            plain: p,
         };
     }
     let word = word_of_channel_binding(n);
     let set = ChannelBindingWord { word: word };
-    let mut next = c;
+    let mut next = p;
     next.channel_binding = set;
-    Applied {
+    AppliedPlain {
         fault: Fault::NoFault,
-        config: next,
+        plain: next,
     }
 }
 
@@ -155,22 +156,22 @@ fn word_of_load_balance_hosts(n: usize) -> LoadBalanceHosts
 }
 
 // Key 19, load_balance_hosts.
-pub fn put_load_balance_hosts(c: Config, v: &[u8]) -> Applied
-    ensures { λ r. ⌜ ((start : ℕ) → r ≡ applied 19 (now (v .entry)) start c) ⌝ }
+pub fn put_load_balance_hosts(p: Plain, v: &[u8]) -> AppliedPlain
+    ensures { λ r. ⌜ ((start : ℕ) → Applies 19 (now (v .entry)) start p r) ⌝ }
 {
     let n = names::word_number(19, v);
     if n == 0 {
-        return Applied {
+        return AppliedPlain {
             fault: Fault::Word,
-            config: c,
+            plain: p,
         };
     }
     let word = word_of_load_balance_hosts(n);
     let set = LoadBalanceHostsWord { word: word };
-    let mut next = c;
+    let mut next = p;
     next.load_balance_hosts = set;
-    Applied {
+    AppliedPlain {
         fault: Fault::NoFault,
-        config: next,
+        plain: next,
     }
 }

@@ -18,15 +18,15 @@ enum-told-2 c = search needs
 
 returns : tie.Need-returns
 unfolding applied faultOf after
-returns c start = rw (sym (c .before .before .before .read-unsigned .ensures) ∙ c .before .n .given .1)
+returns c start host hostaddr port = rw (sym (c .before .before .before .read-unsigned .ensures) ∙ c .before .n .given .1)
 
 returns-2 : tie.Need-returns-2
 unfolding applied faultOf after
-returns-2 c start = rw (sym (c .before .before .read-unsigned .ensures) ∙ c .enum-told .given .1)
+returns-2 c start host hostaddr port = rw (sym (c .before .before .read-unsigned .ensures) ∙ c .enum-told .given .1)
 
 returns-3 : tie.Need-returns-3
 unfolding applied faultOf after
-returns-3 c start = rw (sym (c .before .before .read-unsigned .ensures) ∙ c .enum-told2 .given .1)
+returns-3 c start host hostaddr port = rw (sym (c .before .before .read-unsigned .ensures) ∙ c .enum-told2 .given .1)
 
 pub put-keepalives-spec : {M : Type 1} → statement M
 put-keepalives-spec =

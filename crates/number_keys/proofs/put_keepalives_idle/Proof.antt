@@ -13,7 +13,7 @@ enum-known-n c = search needs
 
 returns : tie.Need-returns
 unfolding applied faultOf after
-returns c start =
+returns c start host hostaddr port =
     let n = c .before .before in
     rw (sym (n .before .before .read-seconds .ensures) ∙ n .n .given .1, eq-eqb (n .n .given .0 .0) 0 (c .if1 .taken))
 
@@ -25,17 +25,17 @@ enum-told-2 c = search needs
 
 returns-2 : tie.Need-returns-2
 unfolding applied faultOf after
-returns-2 c start =
+returns-2 c start host hostaddr port =
     let n = c .before .before in
     rw (sym (n .before .before .read-seconds .ensures) ∙ n .n .given .1, ne-eqb (n .n .given .0 .0) 0 (c .if1 .left))
 
 returns-3 : tie.Need-returns-3
 unfolding applied faultOf after
-returns-3 c start = rw (sym (c .before .before .read-seconds .ensures) ∙ c .enum-told .given .1)
+returns-3 c start host hostaddr port = rw (sym (c .before .before .read-seconds .ensures) ∙ c .enum-told .given .1)
 
 returns-4 : tie.Need-returns-4
 unfolding applied faultOf after
-returns-4 c start = rw (sym (c .before .before .read-seconds .ensures) ∙ c .enum-told2 .given .1)
+returns-4 c start host hostaddr port = rw (sym (c .before .before .read-seconds .ensures) ∙ c .enum-told2 .given .1)
 
 pub put-keepalives-idle-spec : {M : Type 1} → statement M
 put-keepalives-idle-spec =

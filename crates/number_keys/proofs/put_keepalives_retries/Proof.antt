@@ -21,19 +21,19 @@ enum-told-2 c = search needs
 
 returns : tie.Need-returns
 unfolding applied faultOf after
-returns c start =
+returns c start host hostaddr port =
     let r = c .before .before .before in
     rw (was (unsignedOf (2 ^ 32 - 1) (r .before .before .args .v .now)) _ (sym (c .before .n .given .1) ∙ r .read-u32 .ensures))
 
 returns-2 : tie.Need-returns-2
 unfolding applied faultOf after
-returns-2 c start =
+returns-2 c start host hostaddr port =
     let r = c .before .before in
     rw (was (unsignedOf (2 ^ 32 - 1) (r .before .before .args .v .now)) _ (sym (c .enum-told .given .1) ∙ r .read-u32 .ensures))
 
 returns-3 : tie.Need-returns-3
 unfolding applied faultOf after
-returns-3 c start =
+returns-3 c start host hostaddr port =
     let r = c .before .before in
     rw (was (unsignedOf (2 ^ 32 - 1) (r .before .before .args .v .now)) _ (sym (c .enum-told2 .given .1) ∙ r .read-u32 .ensures))
 

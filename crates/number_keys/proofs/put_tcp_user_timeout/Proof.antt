@@ -21,17 +21,17 @@ enum-told-2 c = search needs
 
 returns : tie.Need-returns
 unfolding applied faultOf after
-returns c start =
+returns c start host hostaddr port =
     let n = c .before .before .before in
     rw (sym (n .before .before .read-seconds .ensures) ∙ n .n .given .1, c .time-of .ensures)
 
 returns-2 : tie.Need-returns-2
 unfolding applied faultOf after
-returns-2 c start = rw (sym (c .before .before .read-seconds .ensures) ∙ c .enum-told .given .1)
+returns-2 c start host hostaddr port = rw (sym (c .before .before .read-seconds .ensures) ∙ c .enum-told .given .1)
 
 returns-3 : tie.Need-returns-3
 unfolding applied faultOf after
-returns-3 c start = rw (sym (c .before .before .read-seconds .ensures) ∙ c .enum-told2 .given .1)
+returns-3 c start host hostaddr port = rw (sym (c .before .before .read-seconds .ensures) ∙ c .enum-told2 .given .1)
 
 pub put-tcp-user-timeout-spec : {M : Type 1} → statement M
 put-tcp-user-timeout-spec =
