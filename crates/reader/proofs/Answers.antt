@@ -1,4 +1,4 @@
--- How the reader begins and ends: the tests before the first setting, the first state, and the answer once a turn has stopped.
+-- How the reader begins and ends: the tests before the first setting, the first state, and the answer once it is known what the text comes to.
 -- Assumes nothing.
 use Prim.Native.Nat.{ℕ, zero, suc, _+_, _-_, _*_, _≤_, _<_}
 use mathlib.Core.Path.{_≡_, refl, sym, ap, subst, _∙_}
@@ -17,17 +17,20 @@ use Rattle.names.proofs.Prefix.{prefix-long}
 use Rattle.setting.specs.Setting.{Reading}
 use Rattle.keyvalue.specs.KeyValue.{keyValue}
 use Rattle.url.specs.declared.Stage.{Stage}
+use Rattle.url.specs.declared.Url.{Url}
 use Rattle.url.specs.Step.{url}
 use Rattle.url.specs.Uri.{uri}
 use Rattle.url.proofs.Reading.{reading-start, left-start}
+use Rattle.config.specs.declared.Config.{Config}
+use Rattle.config.specs.declared.Plain.{Plain}
 use Rattle.config.specs.Config.{defaults}
+use Rattle.config.specs.Plain.{plainOf, joined}
 use Rattle.reader.specs.declared.Answer.{Answer}
-use Rattle.reader.specs.declared.Turn.{Turn}
-use Rattle.reader.specs.Reader.{reading, refusal, Outcome, refused, accepted, outcome, outcomeOf, answer, filled, left}
-use Rattle.reader.specs.Steps.{firstState, finishOf, finishLeaves}
+use Rattle.reader.specs.Reader.{reading, refusal, acceptance, Outcome, refused, accepted, ended, outcome, outcomeOf, answer, filled, left}
+use Rattle.reader.specs.Steps.{State, stateOf, firstState}
 use Rattle.reader.proofs.Packing.{Packed, packed-none, zeros-behind, zeros-all}
 use Rattle.reader.proofs.Next.{from, measure, slack}
-use Rattle.reader.proofs.Going.{Going, Stopped}
+use Rattle.reader.proofs.Going.{Going}
 
 -- the four ways that a text goes
 module _ (s d : List ℕ) where
@@ -83,26 +86,39 @@ module _ (s d : List ℕ) (a : length s ≤ 4096) where
         counted = omega arith;
       }
 
-  pub begin : (p : ℕ) → p ≡ prefixLen s → (t : Bool) → t ≡ ltb 0 p → Going s d t 8194 d (firstState p) 0
+  begin : (p : ℕ) → p ≡ prefixLen s → (t : Bool) → t ≡ ltb 0 p → Going s d t 8194 d (firstState p) 0
   begin p e true q = begin-uri p e (λ z. let h : 0 < p = ltb-true 0 p (sym q) in absurd (omega arith))
   begin p e false q = begin-pairs p e (omega (arith, ltb-false 0 p (sym q)))
 
--- once a turn has stopped
-module _ (s d₀ d : List ℕ) (t : Turn) (n : ℕ) (x : Stopped s d₀ d t n) (b : length s ≤ length d₀) where
-  ended-by : (k : Bool) → outcomeOf s ≡ pick k (accepted n (t .state .config) (x .bytes)) (refused (t .number) (t .key) n)
-      → (pick k (record { number = 0; key = 0; count = n; config = t .state .config }) (refusal (t .number) (t .key) n) ≡ outcomeOf s .answer)
-      × (pick k (written d (t .state .packed) (replicate (length s - t .state .packed) 0)) (written d 0 (replicate (length s) 0)) ≡ filled s (outcomeOf s .packed) d₀)
+  -- the record is held as its lists and the rest
+  pub begin-apart : (p : ℕ) → p ≡ prefixLen s → (t : Bool) → t ≡ ltb 0 p → (c : Config) → c ≡ defaults → (q : Plain) → q ≡ plainOf c → (u : Url) → u ≡ url Stage.Credentials p
+      → Going s d t 8194 d (stateOf q (c .host) (c .hostaddr) (c .port) 0 u) 0
+  begin-apart p e t k c i q j u h = rw (h, j, i) (begin p e t k)
+
+-- the answer and the buffer, once it is known what the text comes to; d is the buffer before it is filled up with zeros
+module _ (s d₀ d b : List ℕ) (p : Packed (length s) d₀ b d) (long : length s ≤ length d₀) where
+  pub refused-text : (number key n : ℕ) → outcomeOf s ≡ refused number key n
+      → (refusal number key n ≡ outcomeOf s .answer) × (written d 0 (replicate (length s) 0) ≡ filled s (outcomeOf s .packed) d₀)
   unfolding filled
-  ended-by true e = (
+  refused-text number key n e = (
     ap (λ (o : Outcome). o .answer) (sym e),
-    rw (← (x .long)) (zeros-behind (length s) d₀ (x .bytes) d (x .packed) b (x .low)) ∙ ap (λ (o : Outcome). put d₀ 0 (o .packed ++ replicate (length s - length (o .packed)) 0)) (sym e),
-  )
-  ended-by false e = (
-    ap (λ (o : Outcome). o .answer) (sym e),
-    zeros-all (length s) d₀ (x .bytes) d (x .packed) b ∙ ap (λ (k : ℕ). put d₀ 0 (replicate k 0)) (sym (sub-zero (length s)))
+    zeros-all (length s) d₀ b d p long ∙ ap (λ (k : ℕ). put d₀ 0 (replicate k 0)) (sym (sub-zero (length s)))
         ∙ ap (λ (o : Outcome). put d₀ 0 (o .packed ++ replicate (length s - length (o .packed)) 0)) (sym e),
   )
 
-  pub finished : (finishOf t n ≡ outcomeOf s .answer) × (finishLeaves d (length s) t ≡ filled s (outcomeOf s .packed) d₀)
-  unfolding finishLeaves
-  finished = ended-by (eqb (t .number) 0) (x .comes)
+  accepted-text : (c : Config) (n at : ℕ) → length b ≡ at → length b ≤ length s → outcomeOf s ≡ accepted n c b
+      → (acceptance n c ≡ outcomeOf s .answer) × (written d at (replicate (length s - at) 0) ≡ filled s (outcomeOf s .packed) d₀)
+  unfolding filled
+  accepted-text c n at h low e = (
+    ap (λ (o : Outcome). o .answer) (sym e),
+    rw (← h) (zeros-behind (length s) d₀ b d p long low) ∙ ap (λ (o : Outcome). put d₀ 0 (o .packed ++ replicate (length s - length (o .packed)) 0)) (sym e),
+  )
+
+  -- "if all can, the end decides"
+  pub end-fine : (c : Config) (n at end : ℕ) → length b ≡ at → length b ≤ length s → end ≡ 0 → outcomeOf s ≡ ended c b n end
+      → (acceptance n c ≡ outcomeOf s .answer) × (written d at (replicate (length s - at) 0) ≡ filled s (outcomeOf s .packed) d₀)
+  end-fine c n at end h low z e = accepted-text c n at h low (e ∙ rw (eq-eqb end 0 z))
+
+  pub end-broken : (c : Config) (n end : ℕ) → (end ≡ 0 → ⊥) → outcomeOf s ≡ ended c b n end
+      → (refusal end 0 n ≡ outcomeOf s .answer) × (written d 0 (replicate (length s) 0) ≡ filled s (outcomeOf s .packed) d₀)
+  end-broken c n end z e = refused-text end 0 n (e ∙ rw (ne-eqb end 0 z))

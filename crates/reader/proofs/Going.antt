@@ -1,4 +1,4 @@
--- The reader's loop: what holds while settings are applied, what a turn makes of it, and what holds when it stops.
+-- The reader's loop: what holds while settings are applied, what a turn makes of it, and what holds where a turn stops.
 -- Assumes nothing.
 use Prim.Native.Nat.{ℕ, _+_, _-_, _≤_, _<_}
 use mathlib.Core.Path.{_≡_, refl, sym, ap, subst, _∙_}
@@ -19,10 +19,9 @@ use Rattle.lists.specs.Fault.{isFine, numberOf, keyOf}
 use Rattle.config.specs.declared.Config.{Config}
 use Rattle.apply.specs.declared.Applied.{Applied}
 use Rattle.apply.specs.Apply.{applied}
-use Rattle.reader.specs.declared.State.{State}
-use Rattle.reader.specs.declared.Turn.{Turn}
-use Rattle.reader.specs.Reader.{keeps, kept, Outcome, refused, accepted, ended, outcome, outcomeOf}
-use Rattle.reader.specs.Steps.{nextAt, valueAt, stops, turned, turnBy, leftBy, turnOf, turnLeaves}
+use Rattle.reader.specs.declared.Taken.{Taken}
+use Rattle.reader.specs.Reader.{keeps, kept, Outcome, refused, ended, outcome, outcomeOf}
+use Rattle.reader.specs.Steps.{nextAt, valueAt, takenBy, leftBy, takenOf, takenLeaves, State}
 use Rattle.reader.proofs.Packing.{Packed, value-written, value-after, value-stands, value-left, value-packed}
 use Rattle.reader.proofs.Next.{from, measure, slack, Next, next-found, next-ended}
 
@@ -36,28 +35,8 @@ pub record Going (s d₀ : List ℕ) (uri : Bool) (m : ℕ) (d : List ℕ) (st :
   pub comes : outcomeOf s ≡ outcome (st .config) bytes n (from s uri (st .url) .settings) (from s uri (st .url) .end)
   pub counted : n + measure s uri (st .url) ≤ m
 
--- the loop has stopped with a number and a key
-pub record Stopped (s d₀ : List ℕ) (d : List ℕ) (t : Turn) (n : ℕ) : Type 0 where
-  pub bytes : List ℕ
-  pub long : length bytes ≡ t .state .packed
-  pub packed : Packed (length s) d₀ bytes d
-  pub low : length bytes ≤ length s
-  pub comes : outcomeOf s ≡ pick (eqb (t .number) 0) (accepted n (t .state .config) bytes) (refused (t .number) (t .key) n)
-
 never : {A : Type 0} → _≡_ {A = Bool} true false → A
 never q = let z : _≡_ {A = ℕ} 0 1 = cc in absurd (omega arith)
-
--- a fault has a number that is not 0
-numbered : (f : Fault) → isFine f ≡ false → eqb (numberOf f) 0 ≡ false
-numbered Fault.NoFault e = never e
-numbered Fault.UnknownKey e = refl
-numbered Fault.Word e = refl
-numbered Fault.Form e = refl
-numbered Fault.Range e = refl
-numbered Fault.NoAddress e = refl
-numbered Fault.ManyHosts e = refl
-numbered Fault.ManyHostaddrs e = refl
-numbered Fault.ManyPorts e = refl
 
 -- a setting in front of others, applied or not
 module _ (c : Config) (b : List ℕ) (n : ℕ) (x : Setting) (r : Reading) (a : Applied) (is : a ≡ applied (kindOf x) (valueOf x) (length b) c) where
@@ -139,69 +118,49 @@ module _ (s d₀ : List ℕ) (uri : Bool) (m : ℕ) (d : List ℕ) (st : State) 
           }
 
       -- one that is refused
-      faulty : isFine (a .fault) ≡ false → Stopped s d₀ (written d (st .packed) v) (record { stop = true; number = numberOf (a .fault); key = keyOf (a .fault) (f .kind); state = st }) n
-      faulty e =
-          record {
-            bytes = g .bytes;
-            long = g .long;
-            packed = rw is-written (value-left (length s) d₀ (g .bytes) d (g .packed) long v room);
-            low = omega (arith, g .low, g .at);
-            comes =
-                reads-on ∙ outcome-stop (st .config) (g .bytes) n (x .setting) (from s uri (f .next)) a is-applied e
-                ∙ ap (λ (k : ℕ). refused (numberOf (a .fault)) (keyOf (a .fault) k) n) (x .kind)
-                ∙ sym (rw (numbered (a .fault) e));
-          }
+      faulty : isFine (a .fault) ≡ false → Packed (length s) d₀ (g .bytes) (written d (st .packed) v) × (outcomeOf s ≡ refused (numberOf (a .fault)) (keyOf (a .fault) (f .kind)) n)
+      faulty e = (
+        rw is-written (value-left (length s) d₀ (g .bytes) d (g .packed) long v room),
+        reads-on ∙ outcome-stop (st .config) (g .bytes) n (x .setting) (from s uri (f .next)) a is-applied e
+            ∙ ap (λ (k : ℕ). refused (numberOf (a .fault)) (keyOf (a .fault) k) n) (x .kind),
+      )
 
-  -- a turn that goes on, and one that stops, by its step
-  on-by : (step : UrlStep) → nextAt s uri (st .url) ≡ step → turnBy s uri st d step .stop ≡ false
-      → Going s d₀ uri m (leftBy s uri st d step) (turnBy s uri st d step .state) (n + 1) × (measure s uri (turnBy s uri st d step .state .url) < measure s uri (st .url))
-  on-by (Ended k) e q = never q
-  on-by (Given f) e q = by (isFine (a .fault)) refl q
-    where
-      v : List ℕ
-      v = valueAt s uri f
+  -- what a turn took, by its step
+  on-by : (step : UrlStep) → nextAt s uri (st .url) ≡ step → (t : Taken) → t ≡ takenBy s uri (st .url) (st .packed) d step → t .ended ≡ false
+      → (l : List ℕ) → l ≡ leftBy s uri (st .packed) d step → (a : Applied) → a ≡ applied (t .kind) (partOf (st .packed) (t .end) l) (st .packed) (st .config) → isFine (a .fault) ≡ true
+      → Going s d₀ uri m l (record { config = a .config; packed = t .packed; url = t .next }) (n + 1) × (measure s uri (t .next) < measure s uri (st .url))
+  on-by (Ended k) e t is q l w a gave fine = never (sym (ap (λ (x : Taken). x .ended) is) ∙ q)
+  on-by (Given f) e t is q l w a gave fine =
+      let x = next-found s uri (st .url) f (g .at) e in
+      rw (is, w) (going f (valueAt s uri f) refl x a (rw (is, w) at gave) fine (keeps (f .kind)) refl, x .falls)
 
-      a : Applied
-      a = applied (f .kind) (partOf (st .packed) (after d (st .packed) (valueAt s uri f)) (written d (st .packed) (valueAt s uri f))) (st .packed) (st .config)
+  off-by : (step : UrlStep) → nextAt s uri (st .url) ≡ step → (t : Taken) → t ≡ takenBy s uri (st .url) (st .packed) d step → t .ended ≡ false
+      → (l : List ℕ) → l ≡ leftBy s uri (st .packed) d step → (a : Applied) → a ≡ applied (t .kind) (partOf (st .packed) (t .end) l) (st .packed) (st .config) → isFine (a .fault) ≡ false
+      → Packed (length s) d₀ (g .bytes) l × (outcomeOf s ≡ refused (numberOf (a .fault)) (keyOf (a .fault) (t .kind)) n)
+  off-by (Ended k) e t is q l w a gave fine = never (sym (ap (λ (x : Taken). x .ended) is) ∙ q)
+  off-by (Given f) e t is q l w a gave fine =
+      rw (is, w) (faulty f (valueAt s uri f) refl (next-found s uri (st .url) f (g .at) e) a (rw (is, w) at gave) fine)
 
-      x : Next s uri (st .url) f
-      x = next-found s uri (st .url) f (g .at) e
+  end-by : (step : UrlStep) → nextAt s uri (st .url) ≡ step → (t : Taken) → t ≡ takenBy s uri (st .url) (st .packed) d step → t .ended ≡ true
+      → (l : List ℕ) → l ≡ leftBy s uri (st .packed) d step → Packed (length s) d₀ (g .bytes) l × (outcomeOf s ≡ ended (st .config) (g .bytes) n (t .number))
+  end-by (Ended k) e t is q l w =
+      rw (is, w) (
+        g .packed,
+        g .comes ∙ ap (λ (r : Reading). outcome (st .config) (g .bytes) n (r .settings) (r .end)) (next-ended s uri (st .url) k (g .at) e) ∙ outcome-end (st .config) (g .bytes) n k,
+      )
+  end-by (Given f) e t is q l w = never (sym q ∙ ap (λ (x : Taken). x .ended) is)
 
-      by : (t : Bool) → isFine (a .fault) ≡ t
-          → pick t (record { stop = false; number = 0; key = 0; state = record { config = a .config; packed = pick (keeps (f .kind)) (after d (st .packed) (valueAt s uri f)) (st .packed); url = f .next } }) (stops (numberOf (a .fault)) (keyOf (a .fault) (f .kind)) st) .stop ≡ false
-          → Going s d₀ uri m (written d (st .packed) (valueAt s uri f)) (pick t (record { stop = false; number = 0; key = 0; state = record { config = a .config; packed = pick (keeps (f .kind)) (after d (st .packed) (valueAt s uri f)) (st .packed); url = f .next } }) (stops (numberOf (a .fault)) (keyOf (a .fault) (f .kind)) st) .state) (n + 1)
-          × (measure s uri (pick t (record { stop = false; number = 0; key = 0; state = record { config = a .config; packed = pick (keeps (f .kind)) (after d (st .packed) (valueAt s uri f)) (st .packed); url = f .next } }) (stops (numberOf (a .fault)) (keyOf (a .fault) (f .kind)) st) .state .url) < measure s uri (st .url))
-      by true w q = (going f (valueAt s uri f) refl x a refl w (keeps (f .kind)) refl, x .falls)
-      by false w q = never q
+  -- what a turn took, and what it wrote
+  module _ (t : Taken) (is : t ≡ takenOf s uri (st .url) (st .packed) d) (l : List ℕ) (w : l ≡ takenLeaves s uri (st .url) (st .packed) d) where
+    module _ (q : t .ended ≡ false) (a : Applied) (gave : a ≡ applied (t .kind) (partOf (st .packed) (t .end) l) (st .packed) (st .config)) where
+      pub go-on : isFine (a .fault) ≡ true → Going s d₀ uri m l (record { config = a .config; packed = t .packed; url = t .next }) (n + 1) × (measure s uri (t .next) < measure s uri (st .url))
+      unfolding takenOf takenLeaves
+      go-on fine = on-by (nextAt s uri (st .url)) refl t is q l w a gave fine
 
-  stop-by : (step : UrlStep) → nextAt s uri (st .url) ≡ step → turnBy s uri st d step .stop ≡ true → Stopped s d₀ (leftBy s uri st d step) (turnBy s uri st d step) n
-  stop-by (Ended k) e q =
-      record {
-        bytes = g .bytes;
-        long = g .long;
-        packed = g .packed;
-        low = omega (arith, g .low, g .at);
-        comes = g .comes ∙ ap (λ (r : Reading). outcome (st .config) (g .bytes) n (r .settings) (r .end)) (next-ended s uri (st .url) k (g .at) e) ∙ outcome-end (st .config) (g .bytes) n k;
-      }
-  stop-by (Given f) e q = by (isFine (a .fault)) refl q
-    where
-      a : Applied
-      a = applied (f .kind) (partOf (st .packed) (after d (st .packed) (valueAt s uri f)) (written d (st .packed) (valueAt s uri f))) (st .packed) (st .config)
+      pub go-off : isFine (a .fault) ≡ false → Packed (length s) d₀ (g .bytes) l × (outcomeOf s ≡ refused (numberOf (a .fault)) (keyOf (a .fault) (t .kind)) n)
+      unfolding takenOf takenLeaves
+      go-off fine = off-by (nextAt s uri (st .url)) refl t is q l w a gave fine
 
-      x : Next s uri (st .url) f
-      x = next-found s uri (st .url) f (g .at) e
-
-      by : (t : Bool) → isFine (a .fault) ≡ t
-          → pick t (record { stop = false; number = 0; key = 0; state = record { config = a .config; packed = pick (keeps (f .kind)) (after d (st .packed) (valueAt s uri f)) (st .packed); url = f .next } }) (stops (numberOf (a .fault)) (keyOf (a .fault) (f .kind)) st) .stop ≡ true
-          → Stopped s d₀ (written d (st .packed) (valueAt s uri f)) (pick t (record { stop = false; number = 0; key = 0; state = record { config = a .config; packed = pick (keeps (f .kind)) (after d (st .packed) (valueAt s uri f)) (st .packed); url = f .next } }) (stops (numberOf (a .fault)) (keyOf (a .fault) (f .kind)) st)) n
-      by true w q = never (sym q)
-      by false w q = faulty f (valueAt s uri f) refl x a refl w
-
-  pub go-on : (t : Turn) → t ≡ turnOf s uri st d → t .stop ≡ false → (l : List ℕ) → l ≡ turnLeaves s uri st d
-      → Going s d₀ uri m l (t .state) (n + 1) × (measure s uri (t .state .url) < measure s uri (st .url))
-  unfolding turnOf turnLeaves
-  go-on t e q l w = rw (e, w) (on-by (nextAt s uri (st .url)) refl (rw e at q))
-
-  pub stopped : (t : Turn) → t ≡ turnOf s uri st d → t .stop ≡ true → (l : List ℕ) → l ≡ turnLeaves s uri st d → Stopped s d₀ l t n
-  unfolding turnOf turnLeaves
-  stopped t e q l w = rw (e, w) (stop-by (nextAt s uri (st .url)) refl (rw e at q))
+    pub at-end : t .ended ≡ true → Packed (length s) d₀ (g .bytes) l × (outcomeOf s ≡ ended (st .config) (g .bytes) n (t .number))
+    unfolding takenOf takenLeaves
+    at-end q = end-by (nextAt s uri (st .url)) refl t is q l w

@@ -3,3 +3,4 @@ pub mod Turns
 pub mod Next
 pub mod Going
 pub mod Answers
+pub mod Branches

@@ -1,10 +1,9 @@
--- One turn of the reader: the next setting of a text that is read as a URI or as key-value pairs, written into the buffer and applied.
+-- One turn of the reader: the next setting of a text that is read as a URI or as key-value pairs, written into the buffer.
 -- Assumes nothing.
-use Prim.Native.Nat.{ℕ, _-_}
-use mathlib.Core.Bool.{Bool, true, false}
+use Prim.Native.Nat.{ℕ}
+use mathlib.Core.Bool.{Bool, true, false, _||_}
 use mathlib.Core.List.{List}
 use lib.Dec.{eqb}
-use lib.ListN.{replicate}
 use Rattle.byte.specs.Byte.{pick, partOf}
 use Rattle.byte.specs.Put.{written, after}
 use Rattle.keyvalue.specs.declared.Step.{Step}
@@ -14,16 +13,17 @@ use Rattle.url.specs.declared.Url.{Url}
 use Rattle.url.specs.declared.Found.{Found}
 use Rattle.url.specs.declared.UrlStep.{UrlStep}
 use Rattle.url.specs.Step.{url, stepAt, valueIn}
-use Rattle.lists.specs.declared.Fault.{Fault}
-use Rattle.lists.specs.Fault.{isFine, numberOf, keyOf}
+use Rattle.lists.specs.declared.Hosts.{Hosts}
+use Rattle.lists.specs.declared.Addresses.{Addresses}
+use Rattle.lists.specs.declared.Ports.{Ports}
+use Rattle.lists.specs.declared.MoreHosts.{MoreHosts}
+use Rattle.lists.specs.Lists.{hostAfter, hostsAfter}
+use Rattle.config.specs.declared.Plain.{Plain}
 use Rattle.config.specs.declared.Config.{Config}
 use Rattle.config.specs.Config.{defaults}
-use Rattle.apply.specs.declared.Applied.{Applied}
-use Rattle.apply.specs.Apply.{applied}
-use Rattle.reader.specs.declared.Answer.{Answer}
-use Rattle.reader.specs.declared.State.{State}
-use Rattle.reader.specs.declared.Turn.{Turn}
-use Rattle.reader.specs.Reader.{keeps, refusal, acceptance}
+use Rattle.config.specs.Plain.{joined}
+use Rattle.reader.specs.declared.Taken.{Taken}
+use Rattle.reader.specs.Reader.{keeps}
 
 -- a key-value step in the words of a URI's
 abbrev pub asUrlStep : Step → UrlStep
@@ -42,46 +42,46 @@ abbrev pub valueAt : List ℕ → Bool → Found → List ℕ
 valueAt s true f = valueIn s f
 valueAt s false f = unescaped (partOf (f .from) (f .to) s)
 
-abbrev pub stops : ℕ → ℕ → State → Turn
-stops number key st = record { stop = true; number = number; key = key; state = st }
-
--- a setting of some kind applied: the next state, or the refusal
-abbrev pub turned : ℕ → ℕ → Url → Applied → State → Turn
-turned kind end next a st =
-    pick (isFine (a .fault))
-    (record {
-      stop = false;
+-- what is taken from the text at a place that is read up to: the end, or a setting whose value is written behind what is packed, up to `at`
+abbrev pub takenBy : List ℕ → Bool → Url → ℕ → List ℕ → UrlStep → Taken
+takenBy s uri u at d (UrlStep.Ended n) = record { ended = true; number = n; kind = 0; end = at; packed = at; next = u }
+takenBy s uri u at d (UrlStep.Given f) =
+    record {
+      ended = false;
       number = 0;
-      key = 0;
-      state = record { config = a .config; packed = pick (keeps kind) end (st .packed); url = next };
-    })
-    (stops (numberOf (a .fault)) (keyOf (a .fault) kind) st)
+      kind = f .kind;
+      end = after d at (valueAt s uri f);
+      packed = pick (keeps (f .kind)) (after d at (valueAt s uri f)) at;
+      next = f .next;
+    }
 
--- the place behind the value that is written, and the buffer with it
-abbrev pub turnBy : List ℕ → Bool → State → List ℕ → UrlStep → Turn
-turnBy s uri st d (UrlStep.Ended n) = stops n 0 st
-turnBy s uri st d (UrlStep.Given f) =
-    turned (f .kind) (after d (st .packed) (valueAt s uri f)) (f .next)
-    (applied (f .kind) (partOf (st .packed) (after d (st .packed) (valueAt s uri f)) (written d (st .packed) (valueAt s uri f))) (st .packed) (st .config)) st
+abbrev pub leftBy : List ℕ → Bool → ℕ → List ℕ → UrlStep → List ℕ
+leftBy s uri at d (UrlStep.Ended n) = d
+leftBy s uri at d (UrlStep.Given f) = written d at (valueAt s uri f)
 
-abbrev pub leftBy : List ℕ → Bool → State → List ℕ → UrlStep → List ℕ
-leftBy s uri st d (UrlStep.Ended n) = d
-leftBy s uri st d (UrlStep.Given f) = written d (st .packed) (valueAt s uri f)
+unfoldable pub takenOf : List ℕ → Bool → Url → ℕ → List ℕ → Taken
+takenOf s uri u at d = takenBy s uri u at d (nextAt s uri u)
 
-unfoldable pub turnOf : List ℕ → Bool → State → List ℕ → Turn
-turnOf s uri st d = turnBy s uri st d (nextAt s uri (st .url))
+unfoldable pub takenLeaves : List ℕ → Bool → Url → ℕ → List ℕ → List ℕ
+takenLeaves s uri u at d = leftBy s uri at d (nextAt s uri u)
 
-unfoldable pub turnLeaves : List ℕ → Bool → State → List ℕ → List ℕ
-turnLeaves s uri st d = leftBy s uri st d (nextAt s uri (st .url))
+-- the hosts after a setting of key host, or after one host from a URI
+unfoldable pub isHost : ℕ → Bool
+isHost kind = eqb kind 20 || eqb kind 8
+
+unfoldable pub hostsBy : ℕ → Hosts → ℕ → List ℕ → MoreHosts
+hostsBy kind h start v = pick (eqb kind 20) (hostAfter h start v) (hostsAfter h start v)
+
+-- the record so far, how many bytes of the buffer are packed, and how far the text is read
+pub record State : Type 0 where
+  pub config : Config
+  pub packed : ℕ
+  pub url : Url
+
+-- the record is held as its three lists and the rest
+abbrev pub stateOf : Plain → Hosts → Addresses → Ports → ℕ → Url → State
+stateOf p host hostaddr port packed u = record { config = joined p host hostaddr port; packed = packed; url = u }
 
 -- the state before the first setting: the default record, nothing packed, the text read up to a place
 abbrev pub firstState : ℕ → State
 firstState at = record { config = defaults; packed = 0; url = url Stage.Credentials at }
-
--- the answer of a turn that stopped, n settings being applied before it, and what is written behind
-abbrev pub finishOf : Turn → ℕ → Answer
-finishOf t n = pick (eqb (t .number) 0) (acceptance n (t .state .config)) (refusal (t .number) (t .key) n)
-
-unfoldable pub finishLeaves : List ℕ → ℕ → Turn → List ℕ
-finishLeaves d n t =
-    pick (eqb (t .number) 0) (written d (t .state .packed) (replicate (n - t .state .packed) 0)) (written d 0 (replicate n 0))

@@ -1,14 +1,17 @@
 // A text read into a record: the limits, UTF-8, then its settings applied in order.
 ghost use mathlib.Core.Path.{_≡_};
-ghost use Prim.Native.Nat.{_-_};
-ghost use lib.ListN.{length};
+ghost use Prim.Native.Nat.{_-_, _≤_};
+ghost use lib.ListN.{length, replicate};
+ghost use Rattle.byte.specs.Byte.{pick, partOf};
 ghost use Rattle.byte.specs.Put.{written, after};
+ghost use Rattle.lists.specs.Fault.{numberOf, keyOf};
 ghost use Rattle.keyvalue.specs.KeyValue.{parameterAt};
-ghost use Rattle.reader.specs.Reader.{keeps, refusal, answer, left};
-ghost use Rattle.reader.specs.Steps.{asUrlStep, nextAt, valueAt, turned, turnOf, turnLeaves, firstState, finishOf, finishLeaves};
-use apply::Applied;
+ghost use Rattle.reader.specs.Reader.{keeps, refusal, acceptance, outcomeOf, filled, answer, left};
+ghost use Rattle.reader.specs.Steps.{asUrlStep, nextAt, valueAt, takenOf, takenLeaves, isHost, hostsBy};
 use config::Config;
 use lists::Fault;
+use lists::Hosts;
+use lists::MoreHosts;
 use url::Found;
 use url::Stage;
 use url::Url;
@@ -22,18 +25,15 @@ pub struct Answer {
     pub config: Config,
 }
 
-// The record so far, how many bytes of the buffer are packed, and how far the text is read.
-pub struct State {
-    pub config: Config,
-    pub packed: usize,
-    pub url: Url,
-}
-
-pub struct Turn {
-    pub stop: bool,
+// What is taken from the text: its end, with the end's number; or a setting's kind, the place behind its value in the buffer, the place behind what
+// is packed once it is applied, and how far the text is read.
+pub struct Taken {
+    pub ended: bool,
     pub number: usize,
-    pub key: usize,
-    pub state: State,
+    pub kind: usize,
+    pub end: usize,
+    pub packed: usize,
+    pub next: Url,
 }
 
 fn refuse(number: usize, key: usize, count: usize) -> Answer
@@ -110,59 +110,40 @@ fn put_value(text: &[u8], uri: bool, f: Found, decode: &mut [u8], at: usize) -> 
     keyvalue::unescape(byte::part(text, f.from, f.to), decode, at)
 }
 
-// A setting that was applied: on with the record, or the refusal.
-fn turn_on(kind: usize, end: usize, next: Url, a: Applied, s: State) -> Turn
-    ensures { λ r. ⌜ r ≡ turned kind end next a s ⌝ }
+// The place behind what is packed, once a setting's value stands from `at` up to `end`.
+fn packed_after(kind: usize, at: usize, end: usize) -> usize
+    ensures { λ r. ⌜ r ≡ pick (keeps kind) end at ⌝ }
 {
-    let fault = a.fault;
-    if !lists::is_fine(fault) {
-        return Turn {
-            stop: true,
-            number: lists::number_of(fault),
-            key: lists::key_of(fault, kind),
-            state: s,
-        };
-    }
-    let config = a.config;
-    let mut packed = s.packed;
-    if keeps_value(kind) {
-        packed = end;
-    }
-    let state = State {
-        config: config,
-        packed: packed,
-        url: next,
-    };
-    Turn {
-        stop: false,
-        number: 0,
-        key: 0,
-        state: state,
-    }
+    if keeps_value(kind) { end } else { at }
 }
 
-// One setting read, written behind what is packed, and applied; or the end.
-fn take_turn(text: &[u8], decode: &mut [u8], uri: bool, s: State) -> Turn
-    ensures { λ r. ⌜ r ≡ turnOf (now (text .entry)) uri s (now (decode .entry)) ⌝ }
-    ensures { λ _. ⌜ now (decode .exit) ≡ turnLeaves (now (text .entry)) uri s (now (decode .entry)) ⌝ }
+// One setting read, and its value written behind what is packed; or the end.
+fn take_setting(text: &[u8], decode: &mut [u8], uri: bool, u: Url, at: usize) -> Taken
+    ensures { λ r. ⌜ r ≡ takenOf (now (text .entry)) uri u at (now (decode .entry)) ⌝ }
+    ensures { λ _. ⌜ now (decode .exit) ≡ takenLeaves (now (text .entry)) uri u at (now (decode .entry)) ⌝ }
 {
-    let u = s.url;
     let next = next_setting(text, uri, u);
     match next {
-        UrlStep::Ended(n) => Turn {
-            stop: true,
+        UrlStep::Ended(n) => Taken {
+            ended: true,
             number: n as usize,
-            key: 0,
-            state: s,
+            kind: 0,
+            end: at,
+            packed: at,
+            next: u,
         },
         UrlStep::Given(f) => {
             let kind = f.kind;
             let then = f.next;
-            let at = s.packed;
-            let config = s.config;
             let end = put_value(text, uri, f, decode, at);
-            let a = param::param(config, kind, decode, at, end);
-            turn_on(kind, end, then, a, s)
+            Taken {
+                ended: false,
+                number: 0,
+                kind: kind,
+                end: end,
+                packed: packed_after(kind, at, end),
+                next: then,
+            }
         }
     }
 }
@@ -174,38 +155,137 @@ fn rest_of(n: usize, k: usize) -> usize
     if k <= n { n - k } else { 0 }
 }
 
-// The answer of a text of `n` bytes once its settings are applied: what is packed stays, zeros up to the text's length.
-fn finish(decode: &mut [u8], n: usize, t: Turn, count: usize) -> Answer
-    ensures { λ r. ⌜ r ≡ finishOf t count ⌝ }
-    ensures { λ _. ⌜ now (decode .exit) ≡ finishLeaves (now (decode .entry)) n t ⌝ }
+// A text of `n` bytes refused: zeros up to its length.
+fn refuse_text(decode: &mut [u8], n: usize, number: usize, key: usize, count: usize) -> Answer
+    ensures { λ r. ⌜ r ≡ refusal number key count ⌝ }
+    ensures { λ _. ⌜ now (decode .exit) ≡ written (now (decode .entry)) 0 (replicate n 0) ⌝ }
 {
-    let number = t.number;
-    if number == 0 {
-        let state = t.state;
-        let packed = state.packed;
-        let config = state.config;
-        byte::clear(decode, packed, rest_of(n, packed));
-        return Answer {
-            number: 0,
-            key: 0,
-            count: count,
-            config: config,
-        };
-    }
     byte::clear(decode, 0, n);
-    refuse(number, t.key, count)
+    refuse(number, key, count)
 }
 
-// The state before the first setting.
-fn first_state(at: usize) -> State
-    ensures { λ r. ⌜ r ≡ firstState at ⌝ }
+// A text of `n` bytes refused at a setting.
+fn refuse_setting(decode: &mut [u8], n: usize, fault: Fault, kind: usize, count: usize) -> Answer
+    ensures { λ r. ⌜ r ≡ refusal (numberOf fault) (keyOf fault kind) count ⌝ }
+    ensures { λ _. ⌜ now (decode .exit) ≡ written (now (decode .entry)) 0 (replicate n 0) ⌝ }
 {
-    let config = Config::new();
-    let url = url::start(at);
-    State {
+    refuse_text(
+        decode,
+        n,
+        lists::number_of(fault),
+        lists::key_of(fault, kind),
+        count,
+    )
+}
+
+// A text of `n` bytes accepted: what is packed stays, zeros up to the text's length.
+fn accept(decode: &mut [u8], n: usize, packed: usize, count: usize, config: Config) -> Answer
+    ensures { λ r. ⌜ r ≡ acceptance count config ⌝ }
+    ensures { λ _. ⌜ now (decode .exit) ≡ written (now (decode .entry)) packed (replicate (n - packed) 0) ⌝ }
+{
+    byte::clear(decode, packed, rest_of(n, packed));
+    Answer {
+        number: 0,
+        key: 0,
+        count: count,
         config: config,
-        packed: 0,
-        url: url,
+    }
+}
+
+// Whether a setting is of a host's kind.
+fn is_host(kind: usize) -> bool
+    ensures { λ r. ⌜ r ≡ isHost kind ⌝ }
+{
+    if kind == 20 {
+        return true;
+    }
+    kind == 8
+}
+
+// The hosts after a setting of a host's kind: one from a URI, or the pieces of a value.
+fn more_hosts(h: Hosts, kind: usize, buffer: &[u8], start: usize, end: usize) -> MoreHosts
+    ensures { λ r. ⌜ r ≡ hostsBy kind h start (partOf start end (now (buffer .entry))) ⌝ }
+{
+    if kind == 20 {
+        return lists::add_host(h, buffer, start, end);
+    }
+    lists::add_hosts(h, buffer, start, end)
+}
+
+// The settings of a text, applied in order. The lists are held apart from the rest of the record: a turn moves only what it changes.
+fn read_settings(text: &[u8], decode: &mut [u8]) -> Answer
+    requires { ⌜ (length (now text) ≤ 4096) × (length (now text) ≤ length (now decode)) ⌝ }
+    ensures { λ r. ⌜ r ≡ outcomeOf (now (text .entry)) .answer ⌝ }
+    ensures { λ _. ⌜ now (decode .exit) ≡ filled (now (text .entry)) (outcomeOf (now (text .entry)) .packed) (now (decode .entry)) ⌝ }
+{
+    let prefix = names::prefix_len(text);
+    let uri = 0 < prefix;
+    let first = Config::new();
+    let mut plain = config::plain_of(first);
+    let mut host = first.host;
+    let mut hostaddr = first.hostaddr;
+    let mut port = first.port;
+    let mut packed: usize = 0;
+    let mut url = url::start(prefix);
+    let mut count: usize = 0;
+    loop {
+        let t = take_setting(text, decode, uri, url, packed);
+        let ended = t.ended;
+        let kind = t.kind;
+        let end = t.end;
+        if ended {
+            let number = t.number;
+            if number == 0 {
+                let config = config::join(plain, host, hostaddr, port);
+                return accept(decode, text.len(), packed, count, config);
+            }
+            return refuse_text(decode, text.len(), number, 0, count);
+        }
+        if kind == 10 {
+            let more = lists::add_ports(port, byte::part(decode, packed, end));
+            let fault = more.fault;
+            if !lists::is_fine(fault) {
+                return refuse_setting(decode, text.len(), fault, kind, count);
+            }
+            port = more.ports;
+            packed = t.packed;
+            url = t.next;
+            count += 1;
+            continue;
+        }
+        if kind == 9 {
+            let more = lists::add_addresses(hostaddr, byte::part(decode, packed, end));
+            let fault = more.fault;
+            if !lists::is_fine(fault) {
+                return refuse_setting(decode, text.len(), fault, kind, count);
+            }
+            hostaddr = more.addresses;
+            packed = t.packed;
+            url = t.next;
+            count += 1;
+            continue;
+        }
+        if is_host(kind) {
+            let more = more_hosts(host, kind, decode, packed, end);
+            let fault = more.fault;
+            if !lists::is_fine(fault) {
+                return refuse_setting(decode, text.len(), fault, kind, count);
+            }
+            host = more.hosts;
+            packed = t.packed;
+            url = t.next;
+            count += 1;
+            continue;
+        }
+        let a = param::param_plain(plain, kind, byte::part(decode, packed, end), packed);
+        let fault = a.fault;
+        if !lists::is_fine(fault) {
+            return refuse_setting(decode, text.len(), fault, kind, count);
+        }
+        plain = a.plain;
+        packed = t.packed;
+        url = t.next;
+        count += 1;
     }
 }
 
@@ -221,20 +301,7 @@ pub fn read(text: &[u8], decode: &mut [u8]) -> Answer
         return refuse(2, 0, 0);
     }
     if !utf8::valid(text) {
-        byte::clear(decode, 0, text.len());
-        return refuse(3, 0, 0);
+        return refuse_text(decode, text.len(), 3, 0, 0);
     }
-    let prefix = names::prefix_len(text);
-    let uri = 0 < prefix;
-    let mut state = first_state(prefix);
-    let mut count: usize = 0;
-    loop {
-        let t = take_turn(text, decode, uri, state);
-        let stop = t.stop;
-        if stop {
-            return finish(decode, text.len(), t, count);
-        }
-        state = t.state;
-        count += 1;
-    }
+    read_settings(text, decode)
 }

@@ -1,0 +1,24 @@
+use Rattle.byte.specs.Put.{written}
+use lib.ListN.{replicate}
+use Prim.Native.Nat.{ℕ}
+use mathlib.Core.Path.{refl, ap, _∙_}
+use borrow.Author.Needs.{needs}
+use Rattle.reader.proofs.accept.Statement.{statement}
+use Rattle.reader.proofs.accept.Tie as tie
+
+rest-of-requires : tie.Need-rest-of-requires
+rest-of-requires c κs = search needs
+
+clear-requires : tie.Need-clear-requires
+clear-requires c κs = search needs
+
+same-length : tie.Need-same-length
+same-length c = search needs
+
+returns : tie.Need-returns
+returns c =
+    let a = c .before .before .before .before .before .before .args in
+    (refl, c .before .before .clear .ensures .1 ∙ ap (λ (k : ℕ). written (a .decode .now) (a .packed) (replicate k 0)) (c .before .before .before .rest-of .ensures))
+
+pub accept-spec : {M : Type 1} → statement M
+accept-spec = tie.close (tie.spec rest-of-requires clear-requires same-length returns)
