@@ -3,6 +3,7 @@
 use Prim.Native.Nat.{ℕ}
 use mathlib.Core.Path.{_≡_, refl}
 use mathlib.Core.Bool.{true, false}
+use borrow.Author.Tests.{ne-eqb}
 use lib.Dec.{eqb}
 use Rattle.address.specs.declared.Address.{Address}
 use Rattle.lists.specs.declared.Fault.{Fault}
@@ -61,3 +62,8 @@ module _ (c : Config) (e : counted c ≡ true) where
   pub port-room : (p : ℕ) (m : MorePorts) → m ≡ portKept (c .port) p → isFine (m .fault) ≡ true → isFine (room 10 (number p) c) ≡ true
   unfolding room
   port-room p m k f = rw (← k) f
+
+-- a refusal leaves the record as it was
+pub refused-same : (key : ℕ) (v : Value) (c : Config) → (set key v c .number ≡ 0 → ⊥) → set key v c .config ≡ c
+unfolding set
+refused-same key v c h = rw (ne-eqb (refusal key v c) 0 h)
