@@ -51,10 +51,10 @@ use Rattle.setters.proofs.Answer as S
 use Rattle.setters.proofs.Answer.Laws as S′
 
 -- the machine types of a record and of an answer, as their fields make them
-abbrev record-type : Ty
+abbrev pub record-type : Ty
 record-type = layout (shape T.the-type)
 
-abbrev answer-type : Ty
+abbrev pub answer-type : Ty
 answer-type = layout (shape S.the-type)
 
 -- the record stands behind the number in the answer
