@@ -1,6 +1,6 @@
 #!/usr/bin/env bash
-# The runs beside Rust: builds one x86-64 program out of the proved archives of crates probe and dock, of
-# Rust's own library and of the Rust that is ported, and runs it.
+# The runs beside Rust: builds one x86-64 program out of the proved archives of crates probe, probe_record and dock, of
+# Rust's own library and of the Rust that is ported, and runs it, and beside it the proved program of crate probe_setters.
 #   differential/run.sh small   what `make test` runs: where the tools can't be had it says so, and succeeds
 #   differential/run.sh large   what `make differential` runs: there the same is a failure
 #   differential/run.sh vectors writes crates/replay/stdin, a sample of the Rust's answers, and what the program owes for it
@@ -59,18 +59,18 @@ missing() {
     [ ${#run[@]} = 0 ] || command -v "${run[0]}" >/dev/null || echo qemu-user
 }
 
-# rt ci removes target/, so the archives are kept here, for as long as no crate and no kit changes.
-build_archive() {
-    local name=$1 sum
+# rt ci removes target/, so what is built of a crate is kept here, for as long as no crate and no kit changes.
+build_proved() {
+    local command=$1 name=$2 file=$3 sum
     sum=$({
         rt version
         cat crates.txt
         find crates -type f \( -name '*.rt' -o -name '*.antt' \) -print0 | LC_ALL=C sort -z | xargs -0 sha256sum
     } | sha256sum)
-    [ ! -e "$build/lib$name.a" ] || [ "$sum" != "$(cat "$build/lib$name.sum" 2>/dev/null)" ] || return 0
-    rt staticlib "$name" >"$build/staticlib.log" 2>&1 || fail "crate $name is not proved" "$build/staticlib.log"
-    cp "target/staticlib/lib$name.a" "$build/lib$name.a"
-    echo "$sum" >"$build/lib$name.sum"
+    [ ! -e "$build/${file##*/}" ] || [ "$sum" != "$(cat "$build/$name.sum" 2>/dev/null)" ] || return 0
+    rt "$command" "$name" >"$build/rt.log" 2>&1 || fail "crate $name is not proved" "$build/rt.log"
+    cp "target/$file" "$build/${file##*/}"
+    echo "$sum" >"$build/$name.sum"
 }
 
 rust() {
@@ -109,8 +109,11 @@ if [ "$size" = vectors ]; then
 fi
 with_archives=()
 for archive in probe probe_record dock; do
-    build_archive "$archive"
+    build_proved staticlib "$archive" "staticlib/lib$archive.a"
     with_archives+=(-l "static=$archive")
 done
 rust --crate-name beside --extern percent_encoding "${with_original[@]}" -L native="$build" "${with_archives[@]}" differential/beside/main.rs
-"${run[@]}" "$build/beside" "$size" "$seed"
+build_proved check probe_setters bin/probe_setters
+"${run[@]}" "$build/beside" calls "$size" "$seed" "$build/calls"
+"${run[@]}" "$build/probe_setters" <"$build/calls" >"$build/answers"
+"${run[@]}" "$build/beside" "$size" "$seed" "$build/answers"

@@ -276,6 +276,17 @@ fn address(s: &[u8]) -> Option<String> {
     }
 }
 
+/// The words of a key.
+fn words(key: usize) -> &'static [&'static str] {
+    match key {
+        6 | 18 => &["disable", "prefer", "require"],
+        7 => &["postgres", "direct"],
+        17 => &["any", "read-write", "read-only"],
+        19 => &["disable", "random"],
+        _ => &[],
+    }
+}
+
 /// What a record shows: for each key its values as the report has them, the words and switches too.
 struct Values([Vec<Vec<u8>>; 19]);
 
@@ -309,18 +320,11 @@ impl Values {
             Setting::Keyed(key, v) => (KEYS.iter().position(|k| k.as_bytes() == &key[..]).ok_or((4, 0))? + 1, v),
         };
         let bad = (5, key as u32);
-        let words: &[&str] = match key {
-            6 | 18 => &["disable", "prefer", "require"],
-            7 => &["postgres", "direct"],
-            17 => &["any", "read-write", "read-only"],
-            19 => &["disable", "random"],
-            _ => &[],
-        };
         match key {
             2 => self.0[1] = vec![b"_".to_vec()],
             1..=5 => self.0[key - 1] = vec![v.clone()],
             6 | 7 | 17 | 18 | 19 => {
-                let word = words.iter().find(|w| w.as_bytes() == &v[..]).ok_or(bad)?;
+                let word = words(key).iter().find(|w| w.as_bytes() == &v[..]).ok_or(bad)?;
                 self.0[key - 1] = vec![word.as_bytes().to_vec()];
             }
             8 => v.split(|b| *b == b',').try_for_each(|piece| self.add_host(piece))?,
@@ -349,6 +353,25 @@ impl Values {
             }
         }
         Ok(())
+    }
+
+    /// One call of a setter, and its number: a list has one entry more, any other setting is replaced, by zero too.
+    fn set(&mut self, (key, word, high, low): Call) -> u8 {
+        let key = key as usize;
+        let shown = match key {
+            6 | 7 | 17 | 18 | 19 => words(key)[word as usize].to_string(),
+            9 if word == 4 => (low as u32).to_be_bytes().map(|part| part.to_string()).join("."),
+            9 => [48, 32, 16, 0].map(|n| high >> n).iter().chain(&[48, 32, 16, 0].map(|n| low >> n)).map(|g| format!("{:04x}", *g as u16)).collect::<Vec<_>>().join(":"),
+            10 => (low as u16).to_string(),
+            13 => ((word != 0) as u8).to_string(),
+            16 => (low as u32).to_string(),
+            _ => low.to_string(),
+        };
+        if key == 9 || key == 10 {
+            return self.add(key, shown.into_bytes()).map_or_else(|(number, _)| number as u8, |()| 0);
+        }
+        self.0[key - 1] = vec![shown.into_bytes()];
+        0
     }
 
     fn report(&self) -> Vec<u8> {
@@ -392,6 +415,16 @@ pub fn applied(list: &[Setting]) -> (u32, u32, usize, Vec<u8>) {
         }
     }
     (0, 0, list.len(), values.report())
+}
+
+/// A call of a setter: its key, a word's number (a switch, an address's kind), and a number in two halves.
+pub type Call = (u8, u8, u64, u64);
+
+/// The setters called one after the other: a number for each call, and the report of the record.
+pub fn set(calls: &[Call]) -> (Vec<u8>, Vec<u8>) {
+    let mut values = Values::new();
+    let numbers = calls.iter().map(|call| values.set(*call)).collect();
+    (numbers, values.report())
 }
 
 pub fn answer(text: &[u8], room: usize) -> Answer {

@@ -27,7 +27,7 @@ pub mod api {
     }
 }
 
-pub use api::client::config::{applied, told, Setting, Told};
+pub use api::client::config::{applied, set, told, Call, Setting, Told};
 
 /// Whether a text is read.
 pub fn accepts(text: &str) -> bool {

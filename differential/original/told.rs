@@ -287,6 +287,41 @@ pub fn applied(list: &[Setting]) -> Option<(u32, u32, usize, Vec<u8>)> {
     Some((number, key, count, report(&walk.config)))
 }
 
+/// A call of a setter: its key, a word's number (a switch, an address's kind), and a number in two halves.
+pub type Call = (u8, u8, u64, u64);
+
+/// The setters called one after the other: a number for each call, and the report of the record. The Rust knows no limit of 16, so a
+/// call that would pass it is not made: 01 gives it 14 or 15.
+pub fn set(calls: &[Call]) -> (Vec<u8>, Vec<u8>) {
+    let mut config = Config::new();
+    let numbers = calls.iter().map(|call| set_one(&mut config, *call)).collect();
+    (numbers, report(&config))
+}
+
+fn set_one(c: &mut Config, (key, word, high, low): Call) -> u8 {
+    let (word, seconds) = (word as usize, Duration::from_secs(low));
+    match key {
+        9 if c.hostaddr.len() == 16 => return 14,
+        10 if c.port.len() == 16 => return 15,
+        6 => c.ssl_mode([SslMode::Disable, SslMode::Prefer, SslMode::Require][word]),
+        7 => c.ssl_negotiation([SslNegotiation::Postgres, SslNegotiation::Direct][word]),
+        9 if word == 4 => c.hostaddr(IpAddr::from((low as u32).to_be_bytes())),
+        9 => c.hostaddr(IpAddr::from(((high as u128) << 64 | low as u128).to_be_bytes())),
+        10 => c.port(low as u16),
+        11 => c.connect_timeout(seconds),
+        12 => c.tcp_user_timeout(seconds),
+        13 => c.keepalives(word != 0),
+        14 => c.keepalives_idle(seconds),
+        15 => c.keepalives_interval(seconds),
+        16 => c.keepalives_retries(low as u32),
+        17 => c.target_session_attrs([TargetSessionAttrs::Any, TargetSessionAttrs::ReadWrite, TargetSessionAttrs::ReadOnly][word]),
+        18 => c.channel_binding([ChannelBinding::Disable, ChannelBinding::Prefer, ChannelBinding::Require][word]),
+        19 => c.load_balance_hosts([LoadBalanceHosts::Disable, LoadBalanceHosts::Random][word]),
+        _ => panic!("no setter has key {}", key),
+    };
+    0
+}
+
 /// 01's report of a record.
 pub fn report(c: &Config) -> Vec<u8> {
     let mut lines = Lines(Vec::new());
