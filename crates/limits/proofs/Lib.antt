@@ -3,3 +3,4 @@ pub mod Within
 pub mod Room
 pub mod Entries
 pub mod Stands
+pub mod Entered
