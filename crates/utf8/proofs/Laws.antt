@@ -98,6 +98,11 @@ module _ (s : List ℕ) (at : ℕ) (h : at < length s) where
   unfolding charOf
   beyond p = front ∙ rw (le-ltb _ _ p)
 
+  -- one of two bytes, by its first byte
+  pub pair : 0x80 ≤ getD s at 0 → between 0xc2 0xdf (getD s at 0) ≡ true → charAt (drop at s) ≡ two (getD s at 0) (getD s (at + 1) 0)
+  unfolding longer
+  pair p e = beyond p ∙ rw e
+
 pick-len : (t : Bool) (p q : Char) (n : ℕ) → (t ≡ true → p .len ≤ n) → q .len ≤ n → pick t p q .len ≤ n
 pick-len true p q n f g = f refl
 pick-len false p q n f g = g

@@ -1,6 +1,7 @@
 // UTF-8 by RFC 3629: the character at a place of a text, whether a text is well formed, and the same judged byte by byte.
 ghost use mathlib.Core.Path.{_≡_};
-ghost use lib.ListN.{drop};
+ghost use Prim.Native.Nat.{_-_, _≤_};
+ghost use lib.ListN.{length, drop};
 ghost use Rattle.utf8.specs.Utf8.{tail, least, greatest, second, two, three, four, longer, charAt, wellFormed};
 ghost use Rattle.utf8.specs.Bytewise.{startState, firstState, nextState, wholeState};
 
@@ -122,7 +123,7 @@ fn read_longer(a: u8, b: u8, c: u8, d: u8) -> Char
     NONE
 }
 
-// The character that begins at a place; an ASCII character takes one read.
+// The character that begins at a place; an ASCII character takes one read, one of two bytes two.
 pub fn char_at(s: &[u8], at: usize) -> Char
     ensures { λ r. ⌜ r ≡ charAt (drop at (now (s .entry))) ⌝ }
 {
@@ -131,30 +132,41 @@ pub fn char_at(s: &[u8], at: usize) -> Char
     }
     let a = s[at];
     if a < 0x80 {
-        return Char {
-            code: a as u32,
-            len: 1,
-        };
+        let code = a as u32;
+        return Char { code, len: 1 };
     }
-    read_longer(
-        a,
-        byte::at(s, at + 1),
-        byte::at(s, at + 2),
-        byte::at(s, at + 3),
-    )
+    let b = byte::at(s, at + 1);
+    if byte::is_between(0xc2, 0xdf, a) {
+        return read_two(a, b);
+    }
+    read_longer(a, b, byte::at(s, at + 2), byte::at(s, at + 3))
+}
+
+// Skips ASCII characters: what comes behind them decides.
+fn skip_ascii(s: &[u8], at: usize) -> usize
+    ensures { λ r. ⌜ (at ≤ r) × (r - at ≤ length (now (s .entry)) - at) × (wellFormed (drop at (now (s .entry))) ≡ wellFormed (drop r (now (s .entry)))) ⌝ }
+{
+    let mut i = at;
+    while i < s.len() {
+        if 0x80 <= s[i] {
+            return i;
+        }
+        i += 1;
+    }
+    i
 }
 
 pub fn valid(s: &[u8]) -> bool
     ensures { λ r. ⌜ r ≡ wellFormed (now (s .entry)) ⌝ }
 {
-    let mut at = 0;
+    let mut at = skip_ascii(s, 0);
     while at < s.len() {
         let c = char_at(s, at);
         let n = c.len;
         if n == 0 {
             return false;
         }
-        at += n;
+        at = skip_ascii(s, at + n);
     }
     true
 }
