@@ -1,9 +1,9 @@
 -- Laws of characters and of well formed texts.
 -- Assumes nothing.
-use mathlib.Core.Path.{_≡_, refl, ap, _∙_}
+use mathlib.Core.Path.{_≡_, refl, sym, ap, _∙_}
 use mathlib.Core.Bool.{Bool, true, false, _&&_}
 use mathlib.Core.List.{List, [], _∷_}
-use Prim.Native.Nat.{ℕ, zero, suc, _+_, _-_, _<_, _≤_, zero-le}
+use Prim.Native.Nat.{ℕ, zero, suc, _+_, _-_, _*_, _%_, _<_, _≤_, zero-le}
 use native.Mathlib.Omega.{arith}
 use lib.Dec.{ltb, eqb}
 use lib.ListN.{length, take, drop, getD, length-drop, drop-of-length-le}
@@ -102,6 +102,15 @@ module _ (s : List ℕ) (at : ℕ) (h : at < length s) where
   pub pair : 0x80 ≤ getD s at 0 → between 0xc2 0xdf (getD s at 0) ≡ true → charAt (drop at s) ≡ two (getD s at 0) (getD s (at + 1) 0)
   unfolding longer
   pair p e = beyond p ∙ rw e
+
+  -- how long it is, by its second byte
+  pub pair-len : (t : Bool) → 0x80 ≤ getD s at 0 → between 0xc2 0xdf (getD s at 0) ≡ true → t ≡ tail (getD s (at + 1) 0) → pick t 2 0 ≡ charAt (drop at s) .len
+  unfolding two
+  pair-len t p e f = rw f (by (tail (getD s (at + 1) 0)) (char (getD s at 0 % 32 * 64 + getD s (at + 1) 0 % 64) 2) refl ∙ ap (λ (x : Char). x .len) (sym (pair p e)))
+    where
+      by : (u : Bool) (x : Char) → x .len ≡ 2 → pick u 2 0 ≡ pick u x none .len
+      by true x g = sym g
+      by false x g = refl
 
 pick-len : (t : Bool) (p q : Char) (n : ℕ) → (t ≡ true → p .len ≤ n) → q .len ≤ n → pick t p q .len ≤ n
 pick-len true p q n f g = f refl
