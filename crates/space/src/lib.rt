@@ -24,9 +24,10 @@ const SPACES: [Range; 11] = [
 pub fn is_space(code: u32) -> bool
     ensures { λ r. ⌜ r ≡ isSpace code ⌝ }
 {
+    let spaces = SPACES;
     let mut i = 0;
-    while i < SPACES.len() {
-        let range = SPACES[i];
+    while i < spaces.len() {
+        let range = spaces[i];
         if code < range.0 {
             return false;
         }

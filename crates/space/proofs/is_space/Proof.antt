@@ -10,10 +10,10 @@ use Rattle.space.proofs.is_space.Statement.{statement}
 use Rattle.space.proofs.is_space.Tie as tie
 
 abbrev Inv-loop : tie.InvT-loop
-Inv-loop code i₀ i = (i ≤ 11) × (isSpace code ≡ within (drop i spaces) code)
+Inv-loop code table i₀ i = (i ≤ 11) × (isSpace code ≡ within (drop i spaces) code)
 
 abbrev μ-loop : tie.MeasureT-loop
-μ-loop code i₀ i = 11 - i
+μ-loop code table i₀ i = 11 - i
 
 loop-holds : tie.Need-loop-holds Inv-loop μ-loop
 unfolding isSpace
