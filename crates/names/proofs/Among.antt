@@ -65,3 +65,7 @@ among-miss k w l s e = rw e
 pub among-none : (k : ℕ) (s : List ℕ) → among k [] s ≡ 0
 unfolding among
 among-none k s = refl
+
+pub number-none : (s : List ℕ) → numberIn [] s ≡ 0
+unfolding numberIn
+number-none s = among-none 1 s

@@ -1,65 +1,23 @@
--- The table that the code holds is the names in order: where each starts and ends, and that it stands there. Each rule is one computed test.
+-- The names by their places: a run of them, the keys, the words of each key. Each rule is one computed test.
 -- Assumes nothing.
 use Prim.Native.Nat.{ℕ, zero, suc, _+_, _-_, _≤_, _<_}
 use mathlib.Core.Path.{_≡_, refl, sym, ap, _∙_}
-use mathlib.Core.Bool.{Bool, true, false, _&&_}
-use mathlib.Core.List.{List, [], _∷_, _++_}
+use mathlib.Core.Bool.{Bool, true, false, _&&_, _||_}
+use mathlib.Core.List.{List, [], _∷_}
 use native.Mathlib.Omega.{arith}
 use lib.Dec.{leb, eqb}
 use lib.ListN.{length, drop, take, getD, List·getD-eq-default, drop-of-length-le}
 use lib.Seq.{drop-cons, take-nil, getD-take, getD-drop}
 use native.Mathlib.Numerals.{add-one}
-use borrow.Author.Tests.{leb-true, eqb-true}
+use borrow.Author.Tests.{le-leb, lt-leb, leb-true, leb-false, eqb-true, eqb-false}
+use Rattle.byte.specs.Ascii.{bytes}
 use Rattle.byte.specs.Byte.{pick}
 use Rattle.byte.specs.Same.{same}
 use Rattle.byte.proofs.Same.{same-true}
 use Rattle.byte.proofs.Laws.{and-left, and-right}
 use Rattle.byte.proofs.Table.{every, holds-at}
-use Rattle.names.specs.Names.{fixed, keyNames, keyName, wordName, wordLists, wordsOf}
-
--- where each name ends, counted from n, and all the names in a row
-unfoldable pub upTo : ℕ → List (List ℕ) → List ℕ
-upTo n [] = n ∷ []
-upTo n (w ∷ ws) = n ∷ upTo (n + length w) ws
-
-unfoldable pub joined : List (List ℕ) → List ℕ
-joined [] = []
-joined (w ∷ ws) = w ++ joined ws
-
-unfoldable pub ends : List ℕ
-ends = upTo 0 fixed
-
-unfoldable pub table : List ℕ
-table = joined fixed
-
-in-order : ℕ → Bool
-in-order k = leb (getD ends k 0) (getD ends (k + 1) 0)
-
-fits-in : ℕ → Bool
-fits-in k = leb (getD ends (k + 1) 0) 337
-
-is-name : ℕ → Bool
-is-name k = same (take (getD ends (k + 1) 0 - getD ends k 0) (drop (getD ends k 0) table)) (getD fixed k [])
-
-is-long : ℕ → Bool
-is-long k = eqb (length (getD fixed k [])) (getD ends (k + 1) 0 - getD ends k 0)
-
-module _ (k : ℕ) (h : k < 35) where
-  pub starts : getD ends k 0 ≤ getD ends (k + 1) 0
-  unfolding in-order ends upTo fixed
-  starts = leb-true _ _ (holds-at 35 in-order refl k h)
-
-  pub within : getD ends (k + 1) 0 ≤ 337
-  unfolding fits-in ends upTo fixed
-  within = leb-true _ _ (holds-at 35 fits-in refl k h)
-
-  pub entry : take (getD ends (k + 1) 0 - getD ends k 0) (drop (getD ends k 0) table) ≡ getD fixed k []
-  unfolding is-name ends table same upTo joined fixed
-  entry = same-true _ _ (holds-at 35 is-name refl k h)
-
-  pub long : length (getD fixed k []) ≡ getD ends (k + 1) 0 - getD ends k 0
-  unfolding is-long ends upTo fixed
-  long = eqb-true _ _ (holds-at 35 is-long refl k h)
+use Rattle.names.proofs.Arms.{Not, downFrom, member, not-member, above}
+use Rattle.names.specs.Names.{fixed, starts, keyNames, keyName, wordName, wordLists, wordsOf}
 
 -- behind the last name there is none
 pub beyond : (k : ℕ) → 35 ≤ k → getD fixed k [] ≡ []
@@ -157,14 +115,6 @@ pub no-words : (k : ℕ) → 20 ≤ k → wordsOf k ≡ []
 unfolding wordsOf
 no-words k h = List·getD-eq-default wordLists [] h
 
-pub no-key-word : (k w : ℕ) → 20 ≤ k → wordName k w ≡ []
-unfolding wordName
-no-key-word k w h = rw (no-words k h) (none w)
-  where
-    none : (w : ℕ) → getD {A = List ℕ} ([] ∷ []) w [] ≡ []
-    none zero = refl
-    none (suc v) = refl
-
 pub no-word-zero : (k : ℕ) → wordName k 0 ≡ []
 unfolding wordName
 no-word-zero k = refl
@@ -172,3 +122,163 @@ no-word-zero k = refl
 pub no-name-zero : getD fixed 0 [] ≡ []
 unfolding fixed
 no-name-zero = refl
+
+-- the keys that take a word, the last one first: no other has any
+abbrev pub wordy : List ℕ
+wordy = 19 ∷ 18 ∷ 17 ∷ 7 ∷ 6 ∷ []
+
+silent : ℕ → Bool
+silent k = member k wordy || eqb (length (wordsOf k)) 0
+
+empty : (ws : List (List ℕ)) → length ws ≡ 0 → ws ≡ []
+empty [] e = refl
+empty (w ∷ ws) e = absurd (omega arith)
+
+pub wordless : (k : ℕ) → Not wordy k → wordsOf k ≡ []
+unfolding silent wordsOf
+wordless k r = by (leb 20 k) refl
+  where
+    by : (t : Bool) → leb 20 k ≡ t → wordsOf k ≡ []
+    by true e = no-words k (leb-true 20 k e)
+    by false e =
+        let h : silent k ≡ true = holds-at 20 silent refl k (leb-false 20 k e) in
+        let l : eqb (length (wordsOf k)) 0 ≡ true = rw (not-member wordy k r) at h in
+        empty (wordsOf k) (eqb-true (length (wordsOf k)) 0 l)
+
+pub no-word-of : (k w : ℕ) → wordsOf k ≡ [] → wordName k w ≡ []
+unfolding wordName
+no-word-of k w e = rw e (none w)
+  where
+    none : (w : ℕ) → getD {A = List ℕ} ([] ∷ []) w [] ≡ []
+    none zero = refl
+    none (suc v) = refl
+
+-- where word w of a run of n names stands, counted from 1
+abbrev pub runPlace : ℕ → ℕ → ℕ → ℕ
+runPlace first n w = pick (eqb w 0) 0 (pick (leb w n) (first + (w - 1)) 0)
+
+pub placed : (key k w r : ℕ) → key ≡ k → k < 20 → r ≡ runPlace (getD wordsFrom k 0) (getD wordsEnd k 0 - getD wordsFrom k 0) w → getD fixed r [] ≡ wordName key w
+placed key k w r is h e = rw (is, e) (by (eqb w 0) refl)
+  where
+    n : ℕ
+    n = getD wordsEnd k 0 - getD wordsFrom k 0
+
+    inside : (t : Bool) → (w ≡ 0 → ⊥) → leb w n ≡ t → getD fixed (pick t (getD wordsFrom k 0 + (w - 1)) 0) [] ≡ wordName k w
+    inside true p f = word k h w p (leb-true w n f)
+    inside false p f = no-name-zero ∙ sym (no-word k h w (leb-false w n f))
+
+    by : (t : Bool) → eqb w 0 ≡ t → getD fixed (pick t 0 (pick (leb w n) (getD wordsFrom k 0 + (w - 1)) 0)) [] ≡ wordName k w
+    by true f = no-name-zero ∙ sym (ap (wordName k) (eqb-true w 0 f) ∙ no-word-zero k)
+    by false f = inside (leb w n) (eqb-false w 0 f) refl
+
+-- neither a key's place nor that of another name
+pub nameless : (i : ℕ) → Not (downFrom 34) i → getD fixed i [] ≡ []
+nameless i r = by i (above 34 i r)
+  where
+    by : (k : ℕ) → (1 ≤ k → 35 ≤ k) → getD fixed k [] ≡ []
+    by zero h = no-name-zero
+    by (suc k) h = beyond (suc k) (h (omega arith))
+
+-- the two tables that the code holds: the names of up to eight bytes in a row, and the longer ones
+unfoldable pub shorts : List ℕ
+shorts = bytes "userpassworddbnameoptionssslmodehosthostaddrportdisablepreferrequirepostgresdirectanyrandom"
+
+unfoldable pub longs : List ℕ
+longs = bytes "application_namesslnegotiationconnect_timeouttcp_user_timeoutkeepaliveskeepalives_idlekeepalives_intervalkeepalives_retriestarget_session_attrschannel_bindingload_balance_hostsread-writeread-onlypostgres://postgresql://"
+
+-- name k stands in its table, from where it starts: one computed test for each table
+abbrev stands : ℕ → List ℕ → Bool
+stands k table =
+    leb (getD starts k 0 + length (getD fixed k [])) (length table) && same (take (length (getD fixed k [])) (drop (getD starts k 0) table)) (getD fixed k [])
+
+in-shorts : ℕ → Bool
+in-shorts k = pick (leb (length (getD fixed k [])) 8) (stands k shorts) true
+
+in-longs : ℕ → Bool
+in-longs k = pick (leb (length (getD fixed k [])) 8) true (stands k longs)
+
+all-shorts : every 35 in-shorts ≡ true
+unfolding in-shorts starts shorts fixed same
+all-shorts = refl
+
+all-longs : every 35 in-longs ≡ true
+unfolding in-longs starts longs fixed same
+all-longs = refl
+
+-- what the code reads of a name: n bytes from the place a on
+pub record Row (table : List ℕ) (i n a : ℕ) : Type 0 where
+  pub fits : a + n ≤ length table
+  pub entry : take (a + n - a) (drop a table) ≡ getD fixed i []
+
+module _ (i n a : ℕ) (len : n ≡ length (getD fixed i [])) (start : a ≡ getD starts i 0) where
+  row : (table : List ℕ) → stands i table ≡ true → Row table i n a
+  row table e =
+      let z : a + n - a ≡ n = omega arith in
+      record {
+        fits = rw (len, start) (leb-true _ _ (and-left _ _ e));
+        entry = rw (z, len, start) (same-true _ _ (and-right (leb (getD starts i 0 + length (getD fixed i [])) (length table)) _ e));
+      }
+
+  -- a name that there is not: nothing, from the start on
+  none : (table : List ℕ) → 35 ≤ i → Row table i n a
+  unfolding starts
+  none table h =
+      let e : getD fixed i [] ≡ [] = beyond i h in
+      let m : n ≡ 0 = len ∙ ap length e in
+      let b : a ≡ 0 = start ∙ List·getD-eq-default starts 0 h in
+      let z : a + n - a ≡ 0 = omega arith in
+      record { fits = omega arith; entry = rw z (sym e) }
+
+  pub short-row : n ≤ 8 → Row shorts i n a
+  unfolding in-shorts
+  short-row h = by (leb 35 i) refl
+    where
+      by : (t : Bool) → leb 35 i ≡ t → Row shorts i n a
+      by true e = none shorts (leb-true 35 i e)
+      by false e =
+          let l : length (getD fixed i []) ≤ 8 = omega (arith, len) in
+          row shorts (rw (le-leb (length (getD fixed i [])) 8 l) at (holds-at 35 in-shorts all-shorts i (leb-false 35 i e)))
+
+  pub long-row : 8 < n → Row longs i n a
+  unfolding in-longs
+  long-row h = by (leb 35 i) refl
+    where
+      by : (t : Bool) → leb 35 i ≡ t → Row longs i n a
+      by true e = none longs (leb-true 35 i e)
+      by false e =
+          let l : 8 < length (getD fixed i []) = omega (arith, len) in
+          row longs (rw (lt-leb (length (getD fixed i [])) 8 l) at (holds-at 35 in-longs all-longs i (leb-false 35 i e)))
+
+pub shorts-long : length shorts ≡ 91
+unfolding shorts
+shorts-long = refl
+
+pub longs-long : length longs ≡ 219
+unfolding longs
+longs-long = refl
+
+-- either way it ends within the longer table
+pub row-end : (i n a : ℕ) → n ≡ length (getD fixed i []) → a ≡ getD starts i 0 → a + n ≤ 219
+row-end i n a len start = by (leb n 8) refl
+  where
+    by : (t : Bool) → leb n 8 ≡ t → a + n ≤ 219
+    by true e = omega (arith, short-row i n a len start (leb-true n 8 e) .fits, shorts-long)
+    by false e = omega (arith, long-row i n a len start (leb-false n 8 e) .fits, longs-long)
+
+-- an arm of a `match` on the place of a name
+pub arm-len : (i k n : ℕ) → i ≡ k → n ≡ length (getD fixed k []) → n ≡ length (getD fixed i [])
+arm-len i k n e h = rw e h
+
+pub arm-same : (s : List ℕ) (i k : ℕ) (r : Bool) → i ≡ k → r ≡ same s (getD fixed k []) → r ≡ same s (getD fixed i [])
+arm-same s i k r e h = rw e h
+
+pub arm-start : (i k n : ℕ) → i ≡ k → n ≡ getD starts k 0 → n ≡ getD starts i 0
+arm-start i k n e h = rw e h
+
+pub startless : (i : ℕ) → Not (downFrom 34) i → getD starts i 0 ≡ 0
+unfolding starts
+startless i r = by i (above 34 i r)
+  where
+    by : (k : ℕ) → (1 ≤ k → 35 ≤ k) → getD starts k 0 ≡ 0
+    by zero h = refl
+    by (suc k) h = List·getD-eq-default starts 0 {n = suc k} (h (omega arith))

@@ -94,6 +94,11 @@ unfoldable pub fixed : List (List ℕ)
 fixed =
     ([] ∷ keyNames) ++ sslModeWords ++ sslNegotiationWords ++ targetSessionAttrsWords ++ channelBindingWords ++ loadBalanceHostsWords ++ prefixes
 
+-- where each name starts in a row of its own kind: the names of up to eight bytes, and the longer ones, each written once
+unfoldable pub starts : List ℕ
+starts =
+    0 ∷ 0 ∷ 4 ∷ 12 ∷ 18 ∷ 0 ∷ 25 ∷ 16 ∷ 32 ∷ 36 ∷ 44 ∷ 30 ∷ 45 ∷ 61 ∷ 71 ∷ 86 ∷ 105 ∷ 123 ∷ 143 ∷ 158 ∷ 48 ∷ 55 ∷ 61 ∷ 68 ∷ 76 ∷ 82 ∷ 176 ∷ 186 ∷ 48 ∷ 55 ∷ 61 ∷ 48 ∷ 85 ∷ 195 ∷ 206 ∷ []
+
 -- the name of key k, and word w of key k, counted from 1; nothing where there is none
 unfoldable pub keyName : ℕ → List ℕ
 keyName k = getD ([] ∷ keyNames) k []

@@ -1,6 +1,6 @@
 use Prim.Native.Nat.{ℕ, _≤_, _<_, _+_, _-_}
 use mathlib.Core.Path.{_≡_, sym, _∙_, ap}
-use mathlib.Core.Bool.{Bool, true, false}
+use mathlib.Core.Bool.{true, false}
 use mathlib.Core.List.{List, []}
 use native.Mathlib.Omega.{arith}
 use borrow.Author.Needs.{needs}
@@ -9,21 +9,18 @@ use Rattle.byte.specs.Same.{same}
 use Rattle.names.specs.Names.{fixed}
 use Rattle.names.specs.Find.{among, numberIn}
 use Rattle.names.proofs.Among.{among-hit, among-miss, among-none}
-use Rattle.names.proofs.Rows.{ends, table, upTo, joined, starts, within, entry, cut, cut-none, cut-beyond}
+use Rattle.names.proofs.Rows.{cut, cut-none, cut-beyond}
 use Rattle.names.proofs.find.Statement.{statement}
 use Rattle.names.proofs.find.Tie as tie
 
 abbrev Inv-loop : tie.InvT-loop
-Inv-loop s first end names i₀ i = (first ≤ i) × (numberIn (take (end - first) (drop first fixed)) s ≡ among (i - first + 1) (take (end - i) (drop i fixed)) s)
+Inv-loop s first end i₀ i = (first ≤ i) × (numberIn (take (end - first) (drop first fixed)) s ≡ among (i - first + 1) (take (end - i) (drop i fixed)) s)
 
 abbrev μ-loop : tie.MeasureT-loop
-μ-loop s first end names i₀ i = end - i
+μ-loop s first end i₀ i = end - i
 
 -- what the comparison with name i says of the search from there on
 module _ (s : List ℕ) (first end i : ℕ) (h : i < end) (l : i < 35) (f : first ≤ i) where
-  compared : (t : Bool) → t ≡ same s (take (getD ends (i + 1) 0 - getD ends i 0) (drop (getD ends i 0) table)) → same s (getD fixed i []) ≡ t
-  compared t e = ap (same s) (sym (entry i l)) ∙ sym e
-
   hit : same s (getD fixed i []) ≡ true → among (i - first + 1) (take (end - i) (drop i fixed)) s ≡ i - first + 1
   hit e = rw (cut i end h l) (among-hit _ _ _ s e)
 
@@ -45,35 +42,8 @@ returns c =
     let a = l .before .before .args in
     sym (l .loop .inv .1 ∙ rw (cut-beyond (l .loop .i) (a .end) (c .if1 .taken)) (among-none _ _))
 
-mul-a : tie.Need-mul-a Inv-loop μ-loop
-mul-a c = omega arith
-
-array-read-a : tie.Need-array-read-a Inv-loop μ-loop
-array-read-a c = omega arith
-
-add-e : tie.Need-add-e Inv-loop μ-loop
-add-e c = omega arith
-
-mul-e : tie.Need-mul-e Inv-loop μ-loop
-mul-e c = omega arith
-
-array-read-e : tie.Need-array-read-e Inv-loop μ-loop
-array-read-e c = omega arith
-
-sub-equals : tie.Need-sub-equals Inv-loop μ-loop
-unfolding ends upTo fixed
-sub-equals c = starts (c .before .before .loop .i) (c .if1 .left)
-
-part-equals-start : tie.Need-part-equals-start Inv-loop μ-loop
-unfolding ends upTo fixed
-part-equals-start c = starts (c .before .before .before .loop .i) (c .before .if1 .left)
-
-part-equals-end : tie.Need-part-equals-end Inv-loop μ-loop
-unfolding ends table upTo joined fixed
-part-equals-end c = within (c .before .before .before .loop .i) (c .before .if1 .left)
-
-equals-requires : tie.Need-equals-requires Inv-loop μ-loop
-equals-requires c κs = search needs
+is-name-requires : tie.Need-is-name-requires Inv-loop μ-loop
+is-name-requires c κs = search needs
 
 sub-result : tie.Need-sub-result Inv-loop μ-loop
 sub-result c = omega arith
@@ -82,13 +52,12 @@ add-result : tie.Need-add-result Inv-loop μ-loop
 add-result c = omega arith
 
 returns-2 : tie.Need-returns-2 Inv-loop μ-loop
-unfolding ends table upTo joined fixed
 returns-2 c =
-    let l = c .before .before .before .before .before .before in
+    let l = c .before .before .before .before in
     let a = l .before .before .args in
     let t = l .loop .i in
-    let i : t < 35 = c .before .before .before .before .if1 .left in
-    sym (l .loop .inv .1 ∙ hit (a .s .now) (a .first) (a .end) t (omega arith) i (l .loop .inv .0) (compared (a .s .now) (a .first) (a .end) t (omega arith) i (l .loop .inv .0) _ (c .before .equals .ensures) ∙ c .if2 .taken))
+    let i : t < 35 = c .before .before .if1 .left in
+    sym (l .loop .inv .1 ∙ hit (a .s .now) (a .first) (a .end) t (omega arith) i (l .loop .inv .0) (sym (c .before .is-name .ensures) ∙ c .if2 .taken))
 
 add-i : tie.Need-add-i Inv-loop μ-loop
 add-i c = omega arith
@@ -97,13 +66,12 @@ loop-less : tie.Need-loop-less Inv-loop μ-loop
 loop-less c = omega arith
 
 loop-again : tie.Need-loop-again Inv-loop μ-loop
-unfolding ends table upTo joined fixed
 loop-again c =
-    let l = c .before .before .before .before .before .before in
+    let l = c .before .before .before .before in
     let a = l .before .before .args in
     let t = l .loop .i in
-    let i : t < 35 = c .before .before .before .before .if1 .left in
-    (omega arith, l .loop .inv .1 ∙ miss (a .s .now) (a .first) (a .end) t (omega arith) i (l .loop .inv .0) (compared (a .s .now) (a .first) (a .end) t (omega arith) i (l .loop .inv .0) _ (c .before .equals .ensures) ∙ c .if2 .left))
+    let i : t < 35 = c .before .before .if1 .left in
+    (omega arith, l .loop .inv .1 ∙ miss (a .s .now) (a .first) (a .end) t (omega arith) i (l .loop .inv .0) (sym (c .before .is-name .ensures) ∙ c .if2 .left))
 
 returns-3 : tie.Need-returns-3 Inv-loop μ-loop
 returns-3 c =
@@ -119,15 +87,7 @@ find-spec =
     μ-loop
     loop-holds
     returns
-    mul-a
-    array-read-a
-    add-e
-    mul-e
-    array-read-e
-    sub-equals
-    part-equals-start
-    part-equals-end
-    equals-requires
+    is-name-requires
     sub-result
     add-result
     returns-2

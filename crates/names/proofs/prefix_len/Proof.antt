@@ -7,9 +7,18 @@ use Rattle.byte.specs.Byte.{pick}
 use Rattle.byte.specs.Same.{standsAt}
 use Rattle.names.specs.Names.{fixed}
 use Rattle.names.specs.Find.{prefixLen, startLen}
+use Rattle.names.proofs.Prefix.{no-prefix}
 use borrow.Author.Needs.{needs}
 use Rattle.names.proofs.prefix_len.Statement.{statement}
 use Rattle.names.proofs.prefix_len.Tie as tie
+
+at-requires : tie.Need-at-requires
+at-requires c κs = search needs
+
+returns : tie.Need-returns
+returns c =
+    let s = c .before .before .before .args .s .now in
+    sym (no-prefix s (λ q. c .if1 .taken (c .before .at .ensures ∙ q)))
 
 starts-with-requires : tie.Need-starts-with-requires
 starts-with-requires c κs = search needs
@@ -23,10 +32,10 @@ by-tests : (s : List ℕ) (p q : Bool) → p ≡ standsAt (getD fixed 33 []) 0 s
 unfolding prefixLen startLen fixed
 by-tests s p q e f = rw (e, f)
 
-returns : tie.Need-returns
-returns c =
-    let s = c .before .before .before .before .args .s .now in
-    c .name-len .ensures ∙ sym (by-tests s true _ (sym (c .before .if1 .taken) ∙ c .before .before .starts-with .ensures) refl)
+returns-2 : tie.Need-returns-2
+returns-2 c =
+    let s = c .before .before .before .before .before .before .args .s .now in
+    c .name-len .ensures ∙ sym (by-tests s true _ (sym (c .before .if2 .taken) ∙ c .before .before .starts-with .ensures) refl)
 
 starts-with-requires-2 : tie.Need-starts-with-requires-2
 starts-with-requires-2 c κs = search needs
@@ -34,24 +43,26 @@ starts-with-requires-2 c κs = search needs
 name-len-requires-2 : tie.Need-name-len-requires-2
 name-len-requires-2 c κs = search needs
 
-returns-2 : tie.Need-returns-2
-returns-2 c =
-    let s = c .before .before .before .before .before .before .args .s .now in
-    c .name-len2 .ensures ∙ sym (by-tests s false true (sym (c .before .before .before .if1 .left) ∙ c .before .before .before .before .starts-with .ensures) (sym (c .before .if2 .taken) ∙ c .before .before .starts-with2 .ensures))
-
 returns-3 : tie.Need-returns-3
 returns-3 c =
-    let s = c .before .before .before .before .before .args .s .now in
-    sym (by-tests s false false (sym (c .before .before .if1 .left) ∙ c .before .before .before .starts-with .ensures) (sym (c .if2 .left) ∙ c .before .starts-with2 .ensures))
+    let s = c .before .before .before .before .before .before .before .before .args .s .now in
+    c .name-len2 .ensures ∙ sym (by-tests s false true (sym (c .before .before .before .if2 .left) ∙ c .before .before .before .before .starts-with .ensures) (sym (c .before .if3 .taken) ∙ c .before .before .starts-with2 .ensures))
+
+returns-4 : tie.Need-returns-4
+returns-4 c =
+    let s = c .before .before .before .before .before .before .before .args .s .now in
+    sym (by-tests s false false (sym (c .before .before .if2 .left) ∙ c .before .before .before .starts-with .ensures) (sym (c .if3 .left) ∙ c .before .starts-with2 .ensures))
 
 pub prefix-len-spec : {M : Type 1} → statement M
 prefix-len-spec =
     tie.close
     (tie.spec
+    at-requires
+    returns
     starts-with-requires
     name-len-requires
-    returns
+    returns-2
     starts-with-requires-2
     name-len-requires-2
-    returns-2
-    returns-3)
+    returns-3
+    returns-4)

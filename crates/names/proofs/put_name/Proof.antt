@@ -1,44 +1,31 @@
-use mathlib.Core.Path.{sym, ap, _∙_}
+-- `put_name` meets its contract: the bytes that stand in the name's table are copied. Assumes nothing.
+use mathlib.Core.Path.{ap, _∙_}
+use native.Mathlib.Omega.{arith}
 use Rattle.byte.specs.Put.{written, after}
-use Rattle.byte.proofs.Writing.{written-nil, after-nil}
-use Rattle.names.specs.Names.{fixed}
-use Rattle.names.proofs.Rows.{ends, table, upTo, joined, starts, within, entry, beyond}
+use Rattle.names.proofs.Rows.{shorts, longs, shorts-long, longs-long, short-row, long-row, row-end}
 use borrow.Author.Needs.{needs}
 use Rattle.names.proofs.put_name.Statement.{statement}
 use Rattle.names.proofs.put_name.Tie as tie
 
-returns : tie.Need-returns
-returns c =
-    let a = c .before .before .args in
-    let e = beyond (a .i) (c .if1 .taken) in
-    (sym (ap (after (a .dst .now) (a .at)) e ∙ after-nil _ _), sym (ap (written (a .dst .now) (a .at)) e ∙ written-nil _ (a .at)))
+name-len-requires : tie.Need-name-len-requires
+name-len-requires c κs = search needs
 
-mul-a : tie.Need-mul-a
-mul-a c = search needs
-
-array-read-a : tie.Need-array-read-a
-array-read-a c = search needs
+start-of-requires : tie.Need-start-of-requires
+start-of-requires c κs = search needs
 
 add-e : tie.Need-add-e
-add-e c = search needs
-
-mul-e : tie.Need-mul-e
-mul-e c = search needs
-
-array-read-e : tie.Need-array-read-e
-array-read-e c = search needs
+add-e c = omega (arith, row-end _ _ _ (c .before .name-len .ensures) (c .start-of .ensures))
 
 sub-copy : tie.Need-sub-copy
-unfolding ends upTo fixed
-sub-copy c = starts (c .before .before .args .i) (c .if1 .left)
+sub-copy c = omega arith
 
 part-copy-start : tie.Need-part-copy-start
-unfolding ends upTo fixed
-part-copy-start c = starts (c .before .before .before .args .i) (c .before .if1 .left)
+part-copy-start c = omega arith
 
 part-copy-end : tie.Need-part-copy-end
-unfolding ends table upTo joined fixed
-part-copy-end c = within (c .before .before .before .args .i) (c .before .if1 .left)
+part-copy-end c =
+    let g = c .before in
+    omega (arith, short-row _ _ _ (g .before .before .name-len .ensures) (g .before .start-of .ensures) (g .if1 .taken) .fits, shorts-long)
 
 copy-requires : tie.Need-copy-requires
 copy-requires c κs = search needs
@@ -46,28 +33,57 @@ copy-requires c κs = search needs
 same-length : tie.Need-same-length
 same-length c = search needs
 
+returns : tie.Need-returns
+unfolding shorts
+returns c =
+    let p = c .before .before in
+    let g = p .before .before .before .before in
+    let a = g .before .before .before .before .args in
+    let e = short-row _ _ _ (g .before .before .name-len .ensures) (g .before .start-of .ensures) (g .if1 .taken) .entry in
+    (p .copy .ensures .0 ∙ ap (after (a .dst .now) (a .at)) e, p .copy .ensures .1 ∙ ap (written (a .dst .now) (a .at)) e)
+
+sub-copy-2 : tie.Need-sub-copy-2
+sub-copy-2 c = omega arith
+
+part-copy-start-2 : tie.Need-part-copy-start-2
+part-copy-start-2 c = omega arith
+
+part-copy-end-2 : tie.Need-part-copy-end-2
+part-copy-end-2 c =
+    let g = c .before in
+    omega (arith, long-row _ _ _ (g .before .before .name-len .ensures) (g .before .start-of .ensures) (g .if1 .left) .fits, longs-long)
+
+copy-requires-2 : tie.Need-copy-requires-2
+copy-requires-2 c κs = search needs
+
+same-length-2 : tie.Need-same-length-2
+same-length-2 c = search needs
+
 returns-2 : tie.Need-returns-2
-unfolding ends table upTo joined fixed
+unfolding longs
 returns-2 c =
     let p = c .before .before in
-    let s = p .before .before .before in
-    let a = s .before .before .before .args in
-    let e = entry (a .i) (s .before .if1 .left) in
-    (p .copy .ensures .0 ∙ ap (after (a .dst .now) (a .at)) e, p .copy .ensures .1 ∙ ap (written (a .dst .now) (a .at)) e)
+    let g = p .before .before .before .before in
+    let a = g .before .before .before .before .args in
+    let e = long-row _ _ _ (g .before .before .name-len .ensures) (g .before .start-of .ensures) (g .if1 .left) .entry in
+    (p .copy2 .ensures .0 ∙ ap (after (a .dst .now) (a .at)) e, p .copy2 .ensures .1 ∙ ap (written (a .dst .now) (a .at)) e)
 
 pub put-name-spec : {M : Type 1} → statement M
 put-name-spec =
     tie.close
     (tie.spec
-    returns
-    mul-a
-    array-read-a
+    name-len-requires
+    start-of-requires
     add-e
-    mul-e
-    array-read-e
     sub-copy
     part-copy-start
     part-copy-end
     copy-requires
     same-length
+    returns
+    sub-copy-2
+    part-copy-start-2
+    part-copy-end-2
+    copy-requires-2
+    same-length-2
     returns-2)

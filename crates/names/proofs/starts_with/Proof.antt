@@ -1,65 +1,55 @@
-use Rattle.byte.proofs.Same.{stands-nothing}
-use mathlib.Core.Path.{sym, ap, _∙_}
+-- `starts_with` meets its contract: what is too short starts with no name, and else as much is compared as the name has. Assumes nothing.
+use Prim.Native.Nat.{ℕ, _-_, _<_, _≤_}
+use mathlib.Core.Path.{_≡_, sym, ap, _∙_}
+use mathlib.Core.Bool.{Bool, false}
 use mathlib.Core.List.{List}
-use Prim.Native.Nat.{ℕ}
-use Rattle.byte.specs.Same.{standsAt}
-use Rattle.names.specs.Names.{fixed}
-use Rattle.names.proofs.Rows.{ends, table, upTo, joined, starts, within, entry, beyond}
+use native.Mathlib.Omega.{arith}
+use lib.ListN.{length, take, drop}
+use Rattle.byte.specs.Same.{same, standsAt}
+use Rattle.byte.proofs.Same.{stands-short, stands-within}
 use borrow.Author.Needs.{needs}
 use Rattle.names.proofs.starts_with.Statement.{statement}
 use Rattle.names.proofs.starts_with.Tie as tie
 
+name-len-requires : tie.Need-name-len-requires
+name-len-requires c κs = search needs
+
+short : (w s : List ℕ) (n : ℕ) → n ≡ length w → length s < n → standsAt w 0 s ≡ false
+short w s n e h = stands-short w 0 s (omega arith)
+
+enough : (w s : List ℕ) (n : ℕ) (r : Bool) → n ≡ length w → n ≤ length s → r ≡ same (take (n - 0) (drop 0 s)) w → r ≡ standsAt w 0 s
+enough w s n r e h q =
+    let z : n - 0 ≡ length w = omega arith in
+    q ∙ ap (λ (k : ℕ). same (take k (drop 0 s)) w) z ∙ sym (stands-within w 0 s (omega arith))
+
 returns : tie.Need-returns
-returns c = sym (ap (λ (w : List ℕ). standsAt w 0 (c .before .before .args .s .now)) (beyond (c .before .before .args .i) (c .if1 .taken)) ∙ stands-nothing _)
+returns c = sym (short _ _ _ (c .before .name-len .ensures) (c .if1 .taken))
 
-mul-a : tie.Need-mul-a
-mul-a c = search needs
+sub-is-name : tie.Need-sub-is-name
+sub-is-name c = search needs
 
-array-read-a : tie.Need-array-read-a
-array-read-a c = search needs
+part-is-name-start : tie.Need-part-is-name-start
+part-is-name-start c = search needs
 
-add-e : tie.Need-add-e
-add-e c = search needs
+part-is-name-end : tie.Need-part-is-name-end
+part-is-name-end c = search needs
 
-mul-e : tie.Need-mul-e
-mul-e c = search needs
-
-array-read-e : tie.Need-array-read-e
-array-read-e c = search needs
-
-sub-stands-at : tie.Need-sub-stands-at
-unfolding ends upTo fixed
-sub-stands-at c = starts (c .before .before .args .i) (c .if1 .left)
-
-part-stands-at-start : tie.Need-part-stands-at-start
-unfolding ends upTo fixed
-part-stands-at-start c = starts (c .before .before .before .args .i) (c .before .if1 .left)
-
-part-stands-at-end : tie.Need-part-stands-at-end
-unfolding ends table upTo joined fixed
-part-stands-at-end c = within (c .before .before .before .args .i) (c .before .if1 .left)
-
-stands-at-requires : tie.Need-stands-at-requires
-stands-at-requires c κs = search needs
+is-name-requires : tie.Need-is-name-requires
+is-name-requires c κs = search needs
 
 returns-2 : tie.Need-returns-2
-unfolding ends table upTo joined fixed
 returns-2 c =
-    let a = c .before .before .before .before .before .args in
-    c .stands-at .ensures ∙ ap (λ (w : List ℕ). standsAt w 0 (a .s .now)) (entry (a .i) (c .before .before .before .if1 .left))
+    let g = c .before .before in
+    enough _ _ _ _ (g .before .name-len .ensures) (g .if1 .left) (c .is-name .ensures)
 
 pub starts-with-spec : {M : Type 1} → statement M
 starts-with-spec =
     tie.close
     (tie.spec
+    name-len-requires
     returns
-    mul-a
-    array-read-a
-    add-e
-    mul-e
-    array-read-e
-    sub-stands-at
-    part-stands-at-start
-    part-stands-at-end
-    stands-at-requires
+    sub-is-name
+    part-is-name-start
+    part-is-name-end
+    is-name-requires
     returns-2)
