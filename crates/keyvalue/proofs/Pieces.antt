@@ -8,7 +8,7 @@ use native.Mathlib.Nat.{add-zero}
 use native.Mathlib.Numerals.{add-one}
 use native.Mathlib.Omega.{arith}
 use lib.Dec.{eqb, ltb}
-use lib.ListN.{length, drop, take, getD, drop-of-length-le}
+use lib.ListN.{length, drop, take, getD, length-drop, drop-of-length-le}
 use lib.Seq.{drop-cons, take-length}
 use borrow.Author.Tests.{ne-eqb, eqb-true, eqb-false}
 use Rattle.byte.specs.Byte.{pick}
@@ -158,6 +158,36 @@ module _ (ends : List ℕ → Bool) (s : List ℕ) (at i count : ℕ) (now : Sca
         let t = last ends s i h on j is l in
         raw-is ends s at j count (now .same ∙ t .same) (now .long ∙ rw (t .value) (add-zero count))
 
+-- how long a value is, by where it stands
+raw-len : (ends : List ℕ → Bool) (s : List ℕ) (i : ℕ) → rawAt (until ends) s i .len ≡ length (valueBy ends (drop i s))
+raw-len ends s i =
+    let n : endOf (until ends) s i - i ≡ run (until ends) (drop i s) = omega arith in
+    ap (λ (k : ℕ). length (unescaped (take k (drop i s)))) n
+
+-- bytes that a value gains as they stand are passed over
+pub scan-plain : (ends : List ℕ → Bool) (s : List ℕ) (at i count : ℕ) → Scanning ends s at i count → (r n : ℕ) → n ≡ count + (r - i) → i ≤ r
+    → rawAt (until ends) s i .to ≡ rawAt (until ends) s r .to → rawAt (until ends) s i .len ≡ r - i + rawAt (until ends) s r .len → Scanning ends s at r n
+scan-plain ends s at i count now r n is l e f =
+    record {
+      same = now .same ∙ e;
+      long = omega (arith, now .long, raw-len ends s i, raw-len ends s r, f, is);
+      low = omega (arith, now .low, is, l);
+    }
+
+-- a byte that is no backslash is gained itself
+pub gained-itself : (s : List ℕ) (i : ℕ) → (getD s i 0 ≡ 92 → ⊥) → i ≡ gainedAt s i
+unfolding gainedAt
+gained-itself s i n = rw (ne-eqb (getD s i 0) 92 n)
+
+pub record Plain (ends : List ℕ → Bool) (s : List ℕ) (i : ℕ) : Type 0 where
+  pub to : rawAt (until ends) s i .to ≡ rawAt (until ends) s (i + 1) .to
+  pub len : rawAt (until ends) s i .len ≡ 1 + rawAt (until ends) s (i + 1) .len
+
+pub plain-turn : (ends : List ℕ → Bool) (s : List ℕ) (i : ℕ) → i < length s → ends (drop i s) ≡ false → (getD s i 0 ≡ 92 → ⊥) → Plain ends s i
+plain-turn ends s i h on n =
+    let t = turn ends s i h on i (gained-itself s i n) h in
+    record { to = t .same; len = omega (arith, raw-len ends s i, raw-len ends s (i + 1), ap length (t .value)) }
+
 -- a whole text as a value: one that nothing ends
 abbrev never : List ℕ → Bool
 never t = false
@@ -216,3 +246,11 @@ as-written (a ∷ s) e = by (eqb a 92) (shorter-from true s) (as-written s) e
         → length (pick t (unescapedFrom true s) (a ∷ unescaped s)) ≡ suc (length s) → pick t (unescapedFrom true s) (a ∷ unescaped s) ≡ a ∷ s
     by true p later l = absurd (omega arith)
     by false p later l = ap (λ (v : List ℕ). a ∷ v) (later (omega arith))
+
+-- from a backslash on it is shorter
+pub escaped-less : (s : List ℕ) (i : ℕ) → i < length s → getD s i 0 ≡ 92 → length (unescaped (drop i s)) < length s - i
+unfolding unescapedFrom
+escaped-less s i h e =
+    let d : drop i s ≡ 92 ∷ drop (suc i) s = drop-cons s i 0 h ∙ ap (λ (a : ℕ). a ∷ drop (suc i) s) e in
+    let l : length (unescapedFrom true (drop (suc i) s)) < length s - i = omega (arith, shorter-from true (drop (suc i) s), length-drop (suc i) s) in
+    rw d l

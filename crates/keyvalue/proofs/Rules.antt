@@ -1,23 +1,24 @@
 -- Laws of the rules for white space and keys, told from a place of the text.
 -- Assumes nothing.
 use mathlib.Core.Path.{_≡_, refl, sym, ap, _∙_}
-use mathlib.Core.Bool.{Bool, true, false, _||_, not}
+use mathlib.Core.Bool.{Bool, true, false, _||_, _&&_, not}
 use mathlib.Core.List.{List, [], _∷_}
-use Prim.Native.Nat.{ℕ, suc, _+_, _<_, _≤_, zero-le}
+use Prim.Native.Nat.{ℕ, suc, _+_, _*_, _%_, _<_, _≤_, zero-le}
 use native.Mathlib.Omega.{arith}
 use native.Mathlib.Nat.{add-zero}
-use lib.Dec.{leb, eqb}
+use lib.Dec.{leb, ltb, eqb}
 use lib.ListN.{length, drop, getD, length-drop}
 use lib.Seq.{drop-cons, getD-drop}
-use borrow.Author.Tests.{lt-leb, not-true, eq-eqb, ne-eqb}
+use borrow.Author.Tests.{lt-leb, le-ltb, leb-true, leb-false, ltb-true, not-true, eq-eqb, ne-eqb, eqb-true, eqb-false}
 use Rattle.byte.specs.Byte.{pick, between}
-use Rattle.byte.proofs.Laws.{past, In, between-in}
+use Rattle.byte.proofs.Laws.{past, and-left, between-in, in-between, below-between, above-between}
 use Rattle.byte.proofs.Table.{every, holds-at}
-use Rattle.utf8.specs.Utf8.{charAt}
+use Rattle.utf8.specs.Utf8.{char, none, tail, second, least, greatest, two, three, four, longer, charOf, charAt}
 use Rattle.utf8.specs.declared.Char.{Char}
-use Rattle.utf8.proofs.Laws.{inside, ascii}
+use Rattle.utf8.proofs.Laws.{inside, ascii, front}
 use Rattle.space.specs.Space.{isSpace, within, spaces}
-use Rattle.keyvalue.specs.Scan.{endOf, startsSpace, spaceLen, endsKey, keyLen, startsQuote}
+use Rattle.space.proofs.Marks.{blank, nul, middle, highest}
+use Rattle.keyvalue.specs.Scan.{endOf, solid, startsSpace, spaceLen, endsKey, keyLen, startsQuote}
 use Rattle.keyvalue.proofs.Runs.{end-stop, end-more}
 
 -- white space lies within the text
@@ -52,17 +53,133 @@ pub no-space : (c : ℕ) → 32 < c → c < 128 → isSpace c ≡ false
 unfolding visible
 no-space c l h = not-true (isSpace c) (rw (lt-leb c 32 l) at (holds-at 128 visible all-visible c h))
 
-below-visible : between 33 127 0 ≡ false
-unfolding between
-below-visible = refl
+-- nor does any begin with a solid byte: neither with one that begins no character, nor with one whose characters lie between the marked ones
+data Solid (a : ℕ) : Type 0 where
+  low : 33 ≤ a → a ≤ 0xc1 → Solid a
+  middling : 0xc3 ≤ a → a ≤ 0xe0 → Solid a
+  high : 0xe4 ≤ a → Solid a
 
--- so none begins where one stands
-pub glance : (s : List ℕ) (at : ℕ) → between 33 127 (getD s at 0) ≡ true → startsSpace (drop at s) ≡ false
+solid-is : (a : ℕ) → solid a ≡ true → Solid a
+unfolding solid
+solid-is a e = by (between 33 0xc1 a) (between 0xc3 0xe0 a) refl refl e
+  where
+    by : (p q : Bool) → between 33 0xc1 a ≡ p → between 0xc3 0xe0 a ≡ q → p || (q || leb 0xe4 a) ≡ true → Solid a
+    by true q f g e = let i = between-in 33 0xc1 a f in low (i .low) (i .high)
+    by false true f g e = let i = between-in 0xc3 0xe0 a g in middling (i .low) (i .high)
+    by false false f g e = high (leb-true 0xe4 a e)
+
+module _ (a b c d : ℕ) where
+  two-apart : 0xc3 ≤ a → a ≤ 0xdf → isSpace (two a b .code) ≡ false
+  unfolding two
+  two-apart l h = by (tail b)
+    where
+      by : (t : Bool) → isSpace (pick t (char (a % 32 * 64 + b % 64) 2) none .code) ≡ false
+      by true = middle (a % 32 * 64 + b % 64) (omega arith) (omega arith)
+      by false = nul
+
+  three-apart : 0xe4 ≤ a → a ≤ 0xef → isSpace (three a b c .code) ≡ false
+  unfolding three
+  three-apart l h = by (second a b && tail c)
+    where
+      by : (t : Bool) → isSpace (pick t (char (a % 16 * 4096 + b % 64 * 64 + c % 64) 3) none .code) ≡ false
+      by true = highest (a % 16 * 4096 + b % 64 * 64 + c % 64) (omega arith)
+      by false = nul
+
+  three-first : a ≡ 0xe0 → isSpace (three a b c .code) ≡ false
+  unfolding three least greatest
+  three-first e = rw e (by (second 0xe0 b && tail c) refl)
+    where
+      by : (t : Bool) → between 0xa0 0xbf b && tail c ≡ t → isSpace (pick t (char (0xe0 % 16 * 4096 + b % 64 * 64 + c % 64) 3) none .code) ≡ false
+      by true f =
+          let i = between-in 0xa0 0xbf b (and-left _ _ f) in
+          middle (0xe0 % 16 * 4096 + b % 64 * 64 + c % 64) (omega (arith, i .low, i .high)) (omega (arith, i .low, i .high))
+      by false f = nul
+
+  four-apart : 0xf1 ≤ a → a ≤ 0xf4 → isSpace (four a b c d .code) ≡ false
+  unfolding four
+  four-apart l h = by (second a b && (tail c && tail d))
+    where
+      by : (t : Bool) → isSpace (pick t (char (a % 8 * 262144 + b % 64 * 4096 + c % 64 * 64 + d % 64) 4) none .code) ≡ false
+      by true = highest (a % 8 * 262144 + b % 64 * 4096 + c % 64 * 64 + d % 64) (omega arith)
+      by false = nul
+
+  four-first : a ≡ 0xf0 → isSpace (four a b c d .code) ≡ false
+  unfolding four least greatest
+  four-first e = rw e (by (second 0xf0 b && (tail c && tail d)) refl)
+    where
+      by : (t : Bool) → between 0x90 0xbf b && (tail c && tail d) ≡ t → isSpace (pick t (char (0xf0 % 8 * 262144 + b % 64 * 4096 + c % 64 * 64 + d % 64) 4) none .code) ≡ false
+      by true f =
+          let i = between-in 0x90 0xbf b (and-left _ _ f) in
+          highest (0xf0 % 8 * 262144 + b % 64 * 4096 + c % 64 * 64 + d % 64) (omega (arith, i .low, i .high))
+      by false f = nul
+
+  longer-low : a ≤ 0xc1 → isSpace (longer a b c d .code) ≡ false
+  unfolding longer
+  longer-low h = rw (below-between 0xc2 0xdf a (omega arith), below-between 0xe0 0xef a (omega arith), below-between 0xf0 0xf4 a (omega arith)) nul
+
+  longer-middle : 0xc3 ≤ a → a ≤ 0xe0 → isSpace (longer a b c d .code) ≡ false
+  unfolding longer
+  longer-middle l h = by (eqb a 0xe0) refl
+    where
+      by : (t : Bool) → eqb a 0xe0 ≡ t → isSpace (longer a b c d .code) ≡ false
+      by true e =
+          let n : a ≡ 0xe0 = eqb-true a 0xe0 e in
+          rw (above-between 0xc2 0xdf a (omega arith), in-between 0xe0 0xef a (omega arith) (omega arith)) (three-first n)
+      by false e =
+          let n : a ≡ 0xe0 → ⊥ = eqb-false a 0xe0 e in
+          rw (in-between 0xc2 0xdf a (omega arith) (omega arith)) (two-apart l (omega arith))
+
+  longer-high : 0xe4 ≤ a → isSpace (longer a b c d .code) ≡ false
+  unfolding longer
+  longer-high l = rw (above-between 0xc2 0xdf a (omega arith)) (by (leb a 0xef) refl)
+    where
+      last : (t : Bool) → leb a 0xf4 ≡ t → 0xf1 ≤ a → isSpace (pick (between 0xf0 0xf4 a) (four a b c d) none .code) ≡ false
+      last true e h = rw (in-between 0xf0 0xf4 a (omega arith) (leb-true a 0xf4 e)) (four-apart h (leb-true a 0xf4 e))
+      last false e h = rw (above-between 0xf0 0xf4 a (leb-false a 0xf4 e)) nul
+
+      more : (t : Bool) → eqb a 0xf0 ≡ t → 0xef < a → isSpace (pick (between 0xf0 0xf4 a) (four a b c d) none .code) ≡ false
+      more true e h = let n : a ≡ 0xf0 = eqb-true a 0xf0 e in rw (in-between 0xf0 0xf4 a (omega arith) (omega arith)) (four-first n)
+      more false e h = let n : a ≡ 0xf0 → ⊥ = eqb-false a 0xf0 e in last (leb a 0xf4) refl (omega arith)
+
+      by : (t : Bool) → leb a 0xef ≡ t → isSpace (pick (between 0xe0 0xef a) (three a b c) (pick (between 0xf0 0xf4 a) (four a b c d) none) .code) ≡ false
+      by true e = rw (in-between 0xe0 0xef a (omega arith) (leb-true a 0xef e)) (three-apart l (leb-true a 0xef e))
+      by false e = rw (above-between 0xe0 0xef a (leb-false a 0xef e)) (more (eqb a 0xf0) refl (leb-false a 0xef e))
+
+  apart : Solid a → isSpace (charOf a b c d .code) ≡ false
+  unfolding charOf
+  apart (low l h) = by (ltb a 0x80) refl
+    where
+      by : (t : Bool) → ltb a 0x80 ≡ t → isSpace (pick t (char a 1) (longer a b c d) .code) ≡ false
+      by true e = no-space a (omega arith) (ltb-true a 0x80 e)
+      by false e = longer-low h
+  apart (middling l h) = rw (le-ltb a 0x80 (omega arith)) (longer-middle l h)
+  apart (high l) = rw (le-ltb a 0x80 (omega arith)) (longer-high l)
+
+solid-none : solid 0 ≡ false
+unfolding solid between
+solid-none = refl
+
+pub glance : (s : List ℕ) (at : ℕ) → solid (getD s at 0) ≡ true → startsSpace (drop at s) ≡ false
 unfolding startsSpace
 glance s at e =
-    let i : In 33 127 (getD s at 0) = between-in 33 127 (getD s at 0) e in
-    let within : at < length s = past (between 33 127) below-visible s at e in
-    ap (λ (c : Char). isSpace (c .code)) (ascii s at within (omega arith)) ∙ no-space (getD s at 0) (omega arith) (omega arith)
+    let within : at < length s = past solid solid-none s at e in
+    ap (λ (c : Char). isSpace (c .code)) (front s at within) ∙ apart (getD s at 0) (getD s (at + 1) 0) (getD s (at + 2) 0) (getD s (at + 3) 0) (solid-is (getD s at 0) e)
+
+-- white space at a place: a blank, none with a solid byte, or as the character that is read there says
+pub blank-len : (s : List ℕ) (at : ℕ) → getD s at 0 ≡ 32 → spaceLen (drop at s) ≡ 1
+unfolding spaceLen startsSpace
+blank-len s at e =
+    let within : at < length s = past (λ (b : ℕ). eqb b 32) refl s at (eq-eqb (getD s at 0) 32 e) in
+    let q : charAt (drop at s) ≡ char 32 1 = ascii s at within (omega arith) ∙ ap (λ (n : ℕ). char n 1) e in
+    rw (q, blank)
+
+pub solid-len : (s : List ℕ) (at : ℕ) → solid (getD s at 0) ≡ true → spaceLen (drop at s) ≡ 0
+unfolding spaceLen
+solid-len s at e = rw (glance s at e)
+
+pub read-len : (s : List ℕ) (at : ℕ) (x : Char) (t : Bool) → x ≡ charAt (drop at s) → t ≡ isSpace (x .code) → pick t (x .len) 0 ≡ spaceLen (drop at s)
+unfolding spaceLen startsSpace
+read-len s at x t e f = rw (f, e)
 
 -- a key ends at a place, or goes on behind the byte there
 key-none : (t : List ℕ) → endsKey t ≡ true → keyLen t ≡ 0
@@ -98,3 +215,11 @@ module _ (s : List ℕ) (i : ℕ) where
 
   pub no-quote : (getD s i 0 ≡ 39 → ⊥) → startsQuote (drop i s) ≡ false
   no-quote e = quote-is ∙ ne-eqb (getD s i 0) 39 e
+
+  -- a byte above `=` that is solid ends no key
+  pub key-glance : between 62 0xc1 (getD s i 0) ≡ true → endsKey (drop i s) ≡ false
+  unfolding solid
+  key-glance e =
+      let b = between-in 62 0xc1 (getD s i 0) e in
+      let n : startsSpace (drop i s) ≡ false = glance s i (rw (in-between 33 0xc1 (getD s i 0) (omega (arith, b .low)) (b .high))) in
+      sym (at-sign (getD s i 0) refl n) ∙ ne-eqb (getD s i 0) 61 (λ q. omega (arith, b .low))

@@ -4,9 +4,9 @@
 use Prim.Native.Nat.{ℕ, zero, suc, _+_, _-_}
 use mathlib.Core.Bool.{Bool, _||_}
 use mathlib.Core.List.{List, [], _∷_}
-use lib.Dec.{ltb, eqb}
+use lib.Dec.{ltb, leb, eqb}
 use lib.ListN.{getD, take, drop}
-use Rattle.byte.specs.Byte.{pick}
+use Rattle.byte.specs.Byte.{pick, between}
 use Rattle.utf8.specs.Utf8.{charAt}
 use Rattle.space.specs.Space.{isSpace}
 
@@ -30,6 +30,10 @@ part s from to = take (to - from) (drop from s)
 -- whether a text begins with white space
 unfoldable pub startsSpace : List ℕ → Bool
 startsSpace s = isSpace (charAt s .code)
+
+-- whether a byte begins no white space, whatever follows it: none up to a blank, and not the first byte of 0085 and 00A0, of 1680, of 2000 to 205F, of 3000
+unfoldable pub solid : ℕ → Bool
+solid b = between 33 0xc1 b || (between 0xc3 0xe0 b || leb 0xe4 b)
 
 -- "Skip white space": a character of it
 unfoldable pub spaceLen : List ℕ → ℕ

@@ -1,10 +1,10 @@
 // The key-value reading: one parameter at a place of a text, told without writing, and its value decoded into lent memory.
 ghost use mathlib.Core.Path.{_≡_};
-ghost use Prim.Native.Nat.{_+_};
-ghost use lib.Dec.{leb};
+ghost use Prim.Native.Nat.{_+_, _-_, _≤_};
+ghost use lib.Dec.{leb, eqb};
 ghost use lib.ListN.{length, drop};
 ghost use Rattle.byte.specs.Put.{written, after};
-ghost use Rattle.keyvalue.specs.Scan.{endOf, startsSpace, spaceLen, endsKey, keyLen, gainedAt, quotedLen, simpleLen};
+ghost use Rattle.keyvalue.specs.Scan.{endOf, solid, startsSpace, spaceLen, endsKey, keyLen, gainedAt, quotedLen, simpleLen};
 ghost use Rattle.keyvalue.specs.KeyValue.{rawAt, valueAt, parameterAt, unescaped};
 
 // Where a key stands, and its number, 0 where it is unknown.
@@ -28,11 +28,24 @@ pub enum Step {
     Found { key: Key, value: Raw, next: usize },
 }
 
+// Whether a byte begins no white space, whatever follows it.
+fn is_solid(b: u8) -> bool
+    ensures { λ r. ⌜ r ≡ solid b ⌝ }
+{
+    if byte::is_between(33, 0xc1, b) {
+        return true;
+    }
+    if byte::is_between(0xc3, 0xe0, b) {
+        return true;
+    }
+    0xe4 <= b
+}
+
 // Whether white space begins at a place; most characters are seen at a glance to be none.
 fn starts_space(s: &[u8], at: usize) -> bool
     ensures { λ r. ⌜ r ≡ startsSpace (drop at (now (s .entry))) ⌝ }
 {
-    if byte::is_between(33, 127, byte::at(s, at)) {
+    if is_solid(byte::at(s, at)) {
         return false;
     }
     let c = utf8::char_at(s, at);
@@ -40,12 +53,20 @@ fn starts_space(s: &[u8], at: usize) -> bool
     space::is_space(code)
 }
 
-// How many bytes the white space at a place takes, 0 where there is none.
+// How many bytes the white space at a place takes, 0 where there is none; a blank is seen at a glance, too.
 fn space_len(s: &[u8], at: usize) -> usize
     ensures { λ r. ⌜ r ≡ spaceLen (drop at (now (s .entry))) ⌝ }
 {
-    if starts_space(s, at) {
-        let c = utf8::char_at(s, at);
+    let b = byte::at(s, at);
+    if b == b' ' {
+        return 1;
+    }
+    if is_solid(b) {
+        return 0;
+    }
+    let c = utf8::char_at(s, at);
+    let code = c.code;
+    if space::is_space(code) {
         return c.len;
     }
     0
@@ -75,12 +96,16 @@ fn key_ends(s: &[u8], at: usize) -> bool
     byte::at(s, at) == b'='
 }
 
-// The place behind a key.
+// The place behind a key; most of its bytes are seen at a glance not to end it.
 fn keyword(s: &[u8], at: usize) -> usize
     ensures { λ r. ⌜ r ≡ endOf keyLen (now (s .entry)) at ⌝ }
 {
     let mut i = at;
     while i < s.len() {
+        if byte::is_between(62, 0xc1, s[i]) {
+            i += 1;
+            continue;
+        }
         if key_ends(s, i) {
             return i;
         }
@@ -96,12 +121,31 @@ fn gained_at(s: &[u8], at: usize) -> usize
     if byte::at(s, at) == b'\\' { at + 1 } else { at }
 }
 
+// The place behind the bytes that a value that is not quoted gains as they stand, seen at a glance.
+fn skip_plain(s: &[u8], at: usize) -> usize
+    ensures { λ r. ⌜ (at ≤ r) × (r - at ≤ length (now (s .entry)) - at) × (rawAt simpleLen (now (s .entry)) at .to ≡ rawAt simpleLen (now (s .entry)) r .to) × (rawAt simpleLen (now (s .entry)) at .len ≡ r - at + rawAt simpleLen (now (s .entry)) r .len) ⌝ }
+{
+    let mut i = at;
+    while i < s.len() {
+        let b = s[i];
+        if b == b'\\' {
+            return i;
+        }
+        if !is_solid(b) {
+            return i;
+        }
+        i += 1;
+    }
+    i
+}
+
 // A value that is not quoted: it runs to white space.
 fn simple_value(s: &[u8], at: usize) -> Raw
     ensures { λ r. ⌜ r ≡ rawAt simpleLen (now (s .entry)) at ⌝ }
 {
-    let mut i = at;
-    let mut len = 0;
+    let plain = skip_plain(s, at);
+    let mut i = plain;
+    let mut len = plain - at;
     while i < s.len() {
         if starts_space(s, i) {
             return Raw {
@@ -118,8 +162,9 @@ fn simple_value(s: &[u8], at: usize) -> Raw
                 len,
             };
         }
-        i = j + 1;
-        len += 1;
+        let next = j + 1;
+        i = skip_plain(s, next);
+        len = len + 1 + (i - next);
     }
     Raw {
         from: at,
@@ -232,11 +277,28 @@ fn has_room(raw: &[u8], len: usize, at: usize) -> bool
     byte::has_room(len, at, n)
 }
 
+// Whether a value is as it is written once decoded.
+fn is_as_written(raw: &[u8]) -> bool
+    ensures { λ r. ⌜ r ≡ eqb (length (unescaped (now (raw .entry)))) (length (now (raw .entry))) ⌝ }
+{
+    let mut i = 0;
+    while i < raw.len() {
+        if raw[i] == b'\\' {
+            return false;
+        }
+        i += 1;
+    }
+    true
+}
+
 // Writes a value decoded into `dst` from the place `at` on, and answers the place behind it; with no room it writes nothing and answers `at`.
 pub fn unescape(src: &[u8], dst: &mut [u8], at: usize) -> usize
     ensures { λ r. ⌜ r ≡ after (now (dst .entry)) at (unescaped (now (src .entry))) ⌝ }
     ensures { λ _. ⌜ now (dst .exit) ≡ written (now (dst .entry)) at (unescaped (now (src .entry))) ⌝ }
 {
+    if is_as_written(src) {
+        return byte::copy(src, dst, at);
+    }
     if !has_room(src, dst.len(), at) {
         return at;
     }
