@@ -218,6 +218,7 @@ fn read_settings(text: &[u8], decode: &mut [u8]) -> Answer
     ensures { λ r. ⌜ r ≡ outcomeOf (now (text .entry)) .answer ⌝ }
     ensures { λ _. ⌜ now (decode .exit) ≡ filled (now (text .entry)) (outcomeOf (now (text .entry)) .packed) (now (decode .entry)) ⌝ }
 {
+    let n = text.len();
     let prefix = names::prefix_len(text);
     let uri = 0 < prefix;
     let first = Config::new();
@@ -230,57 +231,55 @@ fn read_settings(text: &[u8], decode: &mut [u8]) -> Answer
     let mut count: usize = 0;
     loop {
         let t = take_setting(text, decode, uri, url, packed);
-        let ended = t.ended;
         let kind = t.kind;
-        let end = t.end;
-        if ended {
+        if t.ended {
             let number = t.number;
             if number == 0 {
                 let config = config::join(plain, host, hostaddr, port);
-                return accept(decode, text.len(), packed, count, config);
+                return accept(decode, n, packed, count, config);
             }
-            return refuse_text(decode, text.len(), number, 0, count);
+            return refuse_text(decode, n, number, 0, count);
         }
         if kind == 10 {
-            let more = lists::add_ports(port, byte::part(decode, packed, end));
+            let more = lists::add_ports(port, byte::part(decode, packed, t.end));
             let fault = more.fault;
-            if !lists::is_fine(fault) {
-                return refuse_setting(decode, text.len(), fault, kind, count);
+            if lists::is_fine(fault) {
+                port = more.ports;
+                packed = t.packed;
+                url = t.next;
+                count += 1;
+                continue;
             }
-            port = more.ports;
-            packed = t.packed;
-            url = t.next;
-            count += 1;
-            continue;
+            return refuse_setting(decode, n, fault, kind, count);
         }
         if kind == 9 {
-            let more = lists::add_addresses(hostaddr, byte::part(decode, packed, end));
+            let more = lists::add_addresses(hostaddr, byte::part(decode, packed, t.end));
             let fault = more.fault;
-            if !lists::is_fine(fault) {
-                return refuse_setting(decode, text.len(), fault, kind, count);
+            if lists::is_fine(fault) {
+                hostaddr = more.addresses;
+                packed = t.packed;
+                url = t.next;
+                count += 1;
+                continue;
             }
-            hostaddr = more.addresses;
-            packed = t.packed;
-            url = t.next;
-            count += 1;
-            continue;
+            return refuse_setting(decode, n, fault, kind, count);
         }
         if is_host(kind) {
-            let more = more_hosts(host, kind, decode, packed, end);
+            let more = more_hosts(host, kind, decode, packed, t.end);
             let fault = more.fault;
-            if !lists::is_fine(fault) {
-                return refuse_setting(decode, text.len(), fault, kind, count);
+            if lists::is_fine(fault) {
+                host = more.hosts;
+                packed = t.packed;
+                url = t.next;
+                count += 1;
+                continue;
             }
-            host = more.hosts;
-            packed = t.packed;
-            url = t.next;
-            count += 1;
-            continue;
+            return refuse_setting(decode, n, fault, kind, count);
         }
-        let a = param::param_plain(plain, kind, byte::part(decode, packed, end), packed);
+        let a = param::param_plain(plain, kind, byte::part(decode, packed, t.end), packed);
         let fault = a.fault;
         if !lists::is_fine(fault) {
-            return refuse_setting(decode, text.len(), fault, kind, count);
+            return refuse_setting(decode, n, fault, kind, count);
         }
         plain = a.plain;
         packed = t.packed;

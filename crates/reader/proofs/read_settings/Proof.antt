@@ -12,11 +12,11 @@ use Rattle.reader.proofs.read_settings.Statement.{statement}
 use Rattle.reader.proofs.read_settings.Tie as tie
 
 abbrev Inv-loop : tie.InvT-loop
-Inv-loop text decode₀ prefix uri plain₀ host₀ hostaddr₀ port₀ packed₀ url₀ count₀ decode plain host hostaddr port packed url count =
+Inv-loop text decode₀ n prefix uri plain₀ host₀ hostaddr₀ port₀ packed₀ url₀ count₀ decode plain host hostaddr port packed url count =
     (length text ≤ length decode₀) × Going text decode₀ uri 8194 decode (stateOf plain host hostaddr port packed url) count
 
 abbrev μ-loop : tie.MeasureT-loop
-μ-loop text decode₀ prefix uri plain₀ host₀ hostaddr₀ port₀ packed₀ url₀ count₀ decode plain host hostaddr port packed url count =
+μ-loop text decode₀ n prefix uri plain₀ host₀ hostaddr₀ port₀ packed₀ url₀ count₀ decode plain host hostaddr port packed url count =
     measure text uri url
 
 prefix-len-requires : tie.Need-prefix-len-requires Inv-loop μ-loop
@@ -91,7 +91,7 @@ returns-3 c =
     let a = c .before .before .before .before .before .before .before .before .before .before .before .before .before .before .before .before .before .before .before .before .before .before .before .before .before .args in
     let l = c .before .before .before .before .before .before .before .before .before .before .before .before .before .before .before .loop in
     let t = c .before .before .before .before .before .before .before .before .before .before .before .before .before .take-setting in
-    let f = ports-no (a .text .now) (a .decode .now) _ _ _ _ _ _ _ _ _ (l .inv .1) (l .inv .0) _ (t .ensures .0) _ (t .ensures .1) (c .before .before .before .before .before .before .before .before .before .before .if1 .left) _ (c .before .before .before .before .before .before .before .part .ensures) (c .before .before .before .before .before .before .before .before .before .if3 .taken) _ (c .before .before .before .before .before .before .add-ports .ensures) (sym (c .before .before .before .before .before .is-fine .ensures) ∙ not-true _ (c .before .before .before .before .if4 .taken)) in
+    let f = ports-no (a .text .now) (a .decode .now) _ _ _ _ _ _ _ _ _ (l .inv .1) (l .inv .0) _ (t .ensures .0) _ (t .ensures .1) (c .before .before .before .before .before .before .before .before .before .before .if1 .left) _ (c .before .before .before .before .before .before .before .part .ensures) (c .before .before .before .before .before .before .before .before .before .if3 .taken) _ (c .before .before .before .before .before .before .add-ports .ensures) (sym (c .before .before .before .before .before .is-fine .ensures) ∙ c .before .before .before .before .if4 .left) in
     (c .before .before .refuse-setting .ensures .0 ∙ f .0, c .before .before .refuse-setting .ensures .1 ∙ f .1)
 
 add-count : tie.Need-add-count Inv-loop μ-loop
@@ -102,14 +102,14 @@ loop-less c =
     let a = c .before .before .before .before .before .before .before .before .before .before .before .before .before .before .before .before .before .before .before .before .before .before .before .args in
     let l = c .before .before .before .before .before .before .before .before .before .before .before .before .before .loop in
     let t = c .before .before .before .before .before .before .before .before .before .before .before .take-setting in
-    ports-go (a .text .now) (a .decode .now) _ _ _ _ _ _ _ _ _ (l .inv .1) (l .inv .0) _ (t .ensures .0) _ (t .ensures .1) (c .before .before .before .before .before .before .before .before .if1 .left) _ (c .before .before .before .before .before .part .ensures) (c .before .before .before .before .before .before .before .if3 .taken) _ (c .before .before .before .before .add-ports .ensures) (sym (c .before .before .before .is-fine .ensures) ∙ not-false _ (c .before .before .if4 .left)) .1
+    ports-go (a .text .now) (a .decode .now) _ _ _ _ _ _ _ _ _ (l .inv .1) (l .inv .0) _ (t .ensures .0) _ (t .ensures .1) (c .before .before .before .before .before .before .before .before .if1 .left) _ (c .before .before .before .before .before .part .ensures) (c .before .before .before .before .before .before .before .if3 .taken) _ (c .before .before .before .before .add-ports .ensures) (sym (c .before .before .before .is-fine .ensures) ∙ c .before .before .if4 .taken) .1
 
 loop-again : tie.Need-loop-again Inv-loop μ-loop
 loop-again c =
     let a = c .before .before .before .before .before .before .before .before .before .before .before .before .before .before .before .before .before .before .before .before .before .before .before .args in
     let l = c .before .before .before .before .before .before .before .before .before .before .before .before .before .loop in
     let t = c .before .before .before .before .before .before .before .before .before .before .before .take-setting in
-    (l .inv .0, ports-go (a .text .now) (a .decode .now) _ _ _ _ _ _ _ _ _ (l .inv .1) (l .inv .0) _ (t .ensures .0) _ (t .ensures .1) (c .before .before .before .before .before .before .before .before .if1 .left) _ (c .before .before .before .before .before .part .ensures) (c .before .before .before .before .before .before .before .if3 .taken) _ (c .before .before .before .before .add-ports .ensures) (sym (c .before .before .before .is-fine .ensures) ∙ not-false _ (c .before .before .if4 .left)) .0)
+    (l .inv .0, ports-go (a .text .now) (a .decode .now) _ _ _ _ _ _ _ _ _ (l .inv .1) (l .inv .0) _ (t .ensures .0) _ (t .ensures .1) (c .before .before .before .before .before .before .before .before .if1 .left) _ (c .before .before .before .before .before .part .ensures) (c .before .before .before .before .before .before .before .if3 .taken) _ (c .before .before .before .before .add-ports .ensures) (sym (c .before .before .before .is-fine .ensures) ∙ c .before .before .if4 .taken) .0)
 
 part-requires-2 : tie.Need-part-requires-2 Inv-loop μ-loop
 part-requires-2 c κs = search needs
@@ -131,7 +131,7 @@ returns-4 c =
     let a = c .before .before .before .before .before .before .before .before .before .before .before .before .before .before .before .before .before .before .before .before .before .before .before .before .before .before .args in
     let l = c .before .before .before .before .before .before .before .before .before .before .before .before .before .before .before .before .loop in
     let t = c .before .before .before .before .before .before .before .before .before .before .before .before .before .before .take-setting in
-    let f = addresses-no (a .text .now) (a .decode .now) _ _ _ _ _ _ _ _ _ (l .inv .1) (l .inv .0) _ (t .ensures .0) _ (t .ensures .1) (c .before .before .before .before .before .before .before .before .before .before .before .if1 .left) _ (c .before .before .before .before .before .before .before .part2 .ensures) (c .before .before .before .before .before .before .before .before .before .if5 .taken) _ (c .before .before .before .before .before .before .add-addresses .ensures) (sym (c .before .before .before .before .before .is-fine2 .ensures) ∙ not-true _ (c .before .before .before .before .if6 .taken)) in
+    let f = addresses-no (a .text .now) (a .decode .now) _ _ _ _ _ _ _ _ _ (l .inv .1) (l .inv .0) _ (t .ensures .0) _ (t .ensures .1) (c .before .before .before .before .before .before .before .before .before .before .before .if1 .left) _ (c .before .before .before .before .before .before .before .part2 .ensures) (c .before .before .before .before .before .before .before .before .before .if5 .taken) _ (c .before .before .before .before .before .before .add-addresses .ensures) (sym (c .before .before .before .before .before .is-fine2 .ensures) ∙ c .before .before .before .before .if6 .left) in
     (c .before .before .refuse-setting2 .ensures .0 ∙ f .0, c .before .before .refuse-setting2 .ensures .1 ∙ f .1)
 
 add-count-2 : tie.Need-add-count-2 Inv-loop μ-loop
@@ -142,14 +142,14 @@ loop-less-2 c =
     let a = c .before .before .before .before .before .before .before .before .before .before .before .before .before .before .before .before .before .before .before .before .before .before .before .before .args in
     let l = c .before .before .before .before .before .before .before .before .before .before .before .before .before .before .loop in
     let t = c .before .before .before .before .before .before .before .before .before .before .before .before .take-setting in
-    addresses-go (a .text .now) (a .decode .now) _ _ _ _ _ _ _ _ _ (l .inv .1) (l .inv .0) _ (t .ensures .0) _ (t .ensures .1) (c .before .before .before .before .before .before .before .before .before .if1 .left) _ (c .before .before .before .before .before .part2 .ensures) (c .before .before .before .before .before .before .before .if5 .taken) _ (c .before .before .before .before .add-addresses .ensures) (sym (c .before .before .before .is-fine2 .ensures) ∙ not-false _ (c .before .before .if6 .left)) .1
+    addresses-go (a .text .now) (a .decode .now) _ _ _ _ _ _ _ _ _ (l .inv .1) (l .inv .0) _ (t .ensures .0) _ (t .ensures .1) (c .before .before .before .before .before .before .before .before .before .if1 .left) _ (c .before .before .before .before .before .part2 .ensures) (c .before .before .before .before .before .before .before .if5 .taken) _ (c .before .before .before .before .add-addresses .ensures) (sym (c .before .before .before .is-fine2 .ensures) ∙ c .before .before .if6 .taken) .1
 
 loop-again-2 : tie.Need-loop-again-2 Inv-loop μ-loop
 loop-again-2 c =
     let a = c .before .before .before .before .before .before .before .before .before .before .before .before .before .before .before .before .before .before .before .before .before .before .before .before .args in
     let l = c .before .before .before .before .before .before .before .before .before .before .before .before .before .before .loop in
     let t = c .before .before .before .before .before .before .before .before .before .before .before .before .take-setting in
-    (l .inv .0, addresses-go (a .text .now) (a .decode .now) _ _ _ _ _ _ _ _ _ (l .inv .1) (l .inv .0) _ (t .ensures .0) _ (t .ensures .1) (c .before .before .before .before .before .before .before .before .before .if1 .left) _ (c .before .before .before .before .before .part2 .ensures) (c .before .before .before .before .before .before .before .if5 .taken) _ (c .before .before .before .before .add-addresses .ensures) (sym (c .before .before .before .is-fine2 .ensures) ∙ not-false _ (c .before .before .if6 .left)) .0)
+    (l .inv .0, addresses-go (a .text .now) (a .decode .now) _ _ _ _ _ _ _ _ _ (l .inv .1) (l .inv .0) _ (t .ensures .0) _ (t .ensures .1) (c .before .before .before .before .before .before .before .before .before .if1 .left) _ (c .before .before .before .before .before .part2 .ensures) (c .before .before .before .before .before .before .before .if5 .taken) _ (c .before .before .before .before .add-addresses .ensures) (sym (c .before .before .before .is-fine2 .ensures) ∙ c .before .before .if6 .taken) .0)
 
 is-host-requires : tie.Need-is-host-requires Inv-loop μ-loop
 is-host-requires c κs = search needs
@@ -171,7 +171,7 @@ returns-5 c =
     let a = c .before .before .before .before .before .before .before .before .before .before .before .before .before .before .before .before .before .before .before .before .before .before .before .before .before .before .before .args in
     let l = c .before .before .before .before .before .before .before .before .before .before .before .before .before .before .before .before .before .loop in
     let t = c .before .before .before .before .before .before .before .before .before .before .before .before .before .before .before .take-setting in
-    let f = hosts-no (a .text .now) (a .decode .now) _ _ _ _ _ _ _ _ _ (l .inv .1) (l .inv .0) _ (t .ensures .0) _ (t .ensures .1) (c .before .before .before .before .before .before .before .before .before .before .before .before .if1 .left) _ refl (sym (c .before .before .before .before .before .before .before .before .before .is-host .ensures) ∙ c .before .before .before .before .before .before .before .before .if7 .taken) _ (c .before .before .before .before .before .before .more-hosts .ensures) (sym (c .before .before .before .before .before .is-fine3 .ensures) ∙ not-true _ (c .before .before .before .before .if8 .taken)) in
+    let f = hosts-no (a .text .now) (a .decode .now) _ _ _ _ _ _ _ _ _ (l .inv .1) (l .inv .0) _ (t .ensures .0) _ (t .ensures .1) (c .before .before .before .before .before .before .before .before .before .before .before .before .if1 .left) _ refl (sym (c .before .before .before .before .before .before .before .before .before .is-host .ensures) ∙ c .before .before .before .before .before .before .before .before .if7 .taken) _ (c .before .before .before .before .before .before .more-hosts .ensures) (sym (c .before .before .before .before .before .is-fine3 .ensures) ∙ c .before .before .before .before .if8 .left) in
     (c .before .before .refuse-setting3 .ensures .0 ∙ f .0, c .before .before .refuse-setting3 .ensures .1 ∙ f .1)
 
 add-count-3 : tie.Need-add-count-3 Inv-loop μ-loop
@@ -182,14 +182,14 @@ loop-less-3 c =
     let a = c .before .before .before .before .before .before .before .before .before .before .before .before .before .before .before .before .before .before .before .before .before .before .before .before .before .args in
     let l = c .before .before .before .before .before .before .before .before .before .before .before .before .before .before .before .loop in
     let t = c .before .before .before .before .before .before .before .before .before .before .before .before .before .take-setting in
-    hosts-go (a .text .now) (a .decode .now) _ _ _ _ _ _ _ _ _ (l .inv .1) (l .inv .0) _ (t .ensures .0) _ (t .ensures .1) (c .before .before .before .before .before .before .before .before .before .before .if1 .left) _ refl (sym (c .before .before .before .before .before .before .before .is-host .ensures) ∙ c .before .before .before .before .before .before .if7 .taken) _ (c .before .before .before .before .more-hosts .ensures) (sym (c .before .before .before .is-fine3 .ensures) ∙ not-false _ (c .before .before .if8 .left)) .1
+    hosts-go (a .text .now) (a .decode .now) _ _ _ _ _ _ _ _ _ (l .inv .1) (l .inv .0) _ (t .ensures .0) _ (t .ensures .1) (c .before .before .before .before .before .before .before .before .before .before .if1 .left) _ refl (sym (c .before .before .before .before .before .before .before .is-host .ensures) ∙ c .before .before .before .before .before .before .if7 .taken) _ (c .before .before .before .before .more-hosts .ensures) (sym (c .before .before .before .is-fine3 .ensures) ∙ c .before .before .if8 .taken) .1
 
 loop-again-3 : tie.Need-loop-again-3 Inv-loop μ-loop
 loop-again-3 c =
     let a = c .before .before .before .before .before .before .before .before .before .before .before .before .before .before .before .before .before .before .before .before .before .before .before .before .before .args in
     let l = c .before .before .before .before .before .before .before .before .before .before .before .before .before .before .before .loop in
     let t = c .before .before .before .before .before .before .before .before .before .before .before .before .before .take-setting in
-    (l .inv .0, hosts-go (a .text .now) (a .decode .now) _ _ _ _ _ _ _ _ _ (l .inv .1) (l .inv .0) _ (t .ensures .0) _ (t .ensures .1) (c .before .before .before .before .before .before .before .before .before .before .if1 .left) _ refl (sym (c .before .before .before .before .before .before .before .is-host .ensures) ∙ c .before .before .before .before .before .before .if7 .taken) _ (c .before .before .before .before .more-hosts .ensures) (sym (c .before .before .before .is-fine3 .ensures) ∙ not-false _ (c .before .before .if8 .left)) .0)
+    (l .inv .0, hosts-go (a .text .now) (a .decode .now) _ _ _ _ _ _ _ _ _ (l .inv .1) (l .inv .0) _ (t .ensures .0) _ (t .ensures .1) (c .before .before .before .before .before .before .before .before .before .before .if1 .left) _ refl (sym (c .before .before .before .before .before .before .before .is-host .ensures) ∙ c .before .before .before .before .before .before .if7 .taken) _ (c .before .before .before .before .more-hosts .ensures) (sym (c .before .before .before .is-fine3 .ensures) ∙ c .before .before .if8 .taken) .0)
 
 part-requires-3 : tie.Need-part-requires-3 Inv-loop μ-loop
 part-requires-3 c κs = search needs
@@ -253,30 +253,30 @@ read-settings-spec =
     part-requires
     add-ports-requires
     is-fine-requires
-    refuse-setting-requires
-    same-length-3
-    returns-3
     add-count
     loop-less
     loop-again
+    refuse-setting-requires
+    same-length-3
+    returns-3
     part-requires-2
     add-addresses-requires
     is-fine-requires-2
-    refuse-setting-requires-2
-    same-length-4
-    returns-4
     add-count-2
     loop-less-2
     loop-again-2
+    refuse-setting-requires-2
+    same-length-4
+    returns-4
     is-host-requires
     more-hosts-requires
     is-fine-requires-3
-    refuse-setting-requires-3
-    same-length-5
-    returns-5
     add-count-3
     loop-less-3
     loop-again-3
+    refuse-setting-requires-3
+    same-length-5
+    returns-5
     part-requires-3
     param-plain-requires
     is-fine-requires-4
