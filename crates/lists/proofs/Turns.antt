@@ -6,12 +6,21 @@ use mathlib.Core.Bool.{Bool, true, false}
 use mathlib.Core.List.{List, [], _∷_}
 use native.Mathlib.Omega.{arith}
 use lib.ListN.{length, take, drop, length-take, length-drop}
+use borrow.Author.Tests.{lt-ltb, le-ltb}
 use Rattle.byte.specs.Byte.{pick}
 use Rattle.split.specs.Split.{firstAt, split}
 use Rattle.split.proofs.Split.{split-here, split-more, split-last, behind, first-within}
 use Rattle.lists.specs.declared.Fault.{Fault}
 use Rattle.lists.specs.Fault.{isFine}
-use Rattle.lists.specs.Append.{Piece, Slots, More, more, append, appendFrom, piecesFrom, listed}
+use Rattle.lists.specs.Append.{Piece, Slots, More, more, pushed, kept, append, appendFrom, piecesFrom, listed}
+
+-- an element where there is room, and where there is none
+module _ {A : Type 0} (full : Fault) (s : Slots A) (a : A) where
+  pub kept-room : s .count < 16 → more Fault.NoFault (pushed s a) ≡ kept full s a
+  kept-room h = rw (lt-ltb (s .count) 16 h)
+
+  pub kept-full : 16 ≤ s .count → more full s ≡ kept full s a
+  kept-full h = rw (le-ltb (s .count) 16 h)
 
 module _ {A : Type 0} (full : Fault) (old s : Slots A) where
   append-on : (p : Piece A) (ps : List (Piece A)) → isFine (append full s p .fault) ≡ true → appendFrom full old s (p ∷ ps) ≡ appendFrom full old (append full s p .slots) ps

@@ -198,19 +198,6 @@ pub fn keep_address(a: Addresses, address: Address) -> MoreAddresses
     }
 }
 
-// One piece: its form is judged before room for it.
-fn push_address(a: Addresses, piece: &[u8]) -> MoreAddresses
-    ensures { λ r. ⌜ r ≡ addressPushed a (now (piece .entry)) ⌝ }
-{
-    match address::read_address(piece) {
-        AddressRead::Is(address) => keep_address(a, address),
-        AddressRead::Not => MoreAddresses {
-            fault: Fault::NoAddress,
-            addresses: a,
-        },
-    }
-}
-
 // The pieces between commas, left to right.
 pub fn add_addresses(a: Addresses, v: &[u8]) -> MoreAddresses
     ensures { λ r. ⌜ r ≡ addressesAfter a (now (v .entry)) ⌝ }
@@ -219,22 +206,33 @@ pub fn add_addresses(a: Addresses, v: &[u8]) -> MoreAddresses
     let mut at = 0;
     loop {
         let end = split::find(v, at, COMMA);
-        let more = push_address(addresses, &v[at..end]);
-        let fault = more.fault;
-        if !is_fine(fault) {
-            return MoreAddresses {
-                fault: fault,
-                addresses: a,
-            };
+        let read = address::read_address(&v[at..end]);
+        match read {
+            AddressRead::Not => {
+                return MoreAddresses {
+                    fault: Fault::NoAddress,
+                    addresses: a,
+                };
+            }
+            AddressRead::Is(address) => {
+                let n = addresses.count;
+                if 16 <= n {
+                    return MoreAddresses {
+                        fault: Fault::ManyHostaddrs,
+                        addresses: a,
+                    };
+                }
+                addresses.list[n] = address;
+                addresses.count = n + 1;
+                if v.len() <= end {
+                    return MoreAddresses {
+                        fault: Fault::NoFault,
+                        addresses: addresses,
+                    };
+                }
+                at = end + 1;
+            }
         }
-        addresses = more.addresses;
-        if v.len() <= end {
-            return MoreAddresses {
-                fault: Fault::NoFault,
-                addresses: addresses,
-            };
-        }
-        at = end + 1;
     }
 }
 
@@ -254,32 +252,26 @@ fn host_of(first: u8, start: usize, len: usize) -> Host
     Host { kind: kind }
 }
 
-// One host more, where there is room.
-fn push_host(h: Hosts, piece: &[u8], start: usize) -> MoreHosts
-    ensures { λ r. ⌜ r ≡ hostPushed h start (now (piece .entry)) ⌝ }
+// One host from a URI, whose commas are its own: the part of the buffer from `start` up to `end`.
+pub fn add_host(h: Hosts, buffer: &[u8], start: usize, end: usize) -> MoreHosts
+    ensures { λ r. ⌜ r ≡ hostAfter h start (partOf start end (now (buffer .entry))) ⌝ }
 {
-    let host = host_of(byte::at(piece, 0), start, piece.len());
-    let at = h.count;
-    if 16 <= at {
+    let v = byte::part(buffer, start, end);
+    let n = h.count;
+    if 16 <= n {
         return MoreHosts {
             fault: Fault::ManyHosts,
             hosts: h,
         };
     }
-    let mut next = h;
-    next.list[at] = host;
-    next.count = at + 1;
+    let host = host_of(byte::at(v, 0), start, v.len());
+    let mut hosts = h;
+    hosts.list[n] = host;
+    hosts.count = n + 1;
     MoreHosts {
         fault: Fault::NoFault,
-        hosts: next,
+        hosts: hosts,
     }
-}
-
-// One host from a URI, whose commas are its own: the part of the buffer from `start` up to `end`.
-pub fn add_host(h: Hosts, buffer: &[u8], start: usize, end: usize) -> MoreHosts
-    ensures { λ r. ⌜ r ≡ hostAfter h start (partOf start end (now (buffer .entry))) ⌝ }
-{
-    push_host(h, byte::part(buffer, start, end), start)
 }
 
 // The pieces between commas of the part of the buffer from `start` up to `end`, left to right.
@@ -287,25 +279,27 @@ pub fn add_hosts(h: Hosts, buffer: &[u8], start: usize, end: usize) -> MoreHosts
     ensures { λ r. ⌜ r ≡ hostsAfter h start (partOf start end (now (buffer .entry))) ⌝ }
 {
     let v = byte::part(buffer, start, end);
+    let mut fault = Fault::NoFault;
     let mut hosts = h;
     let mut at = 0;
     loop {
         let end = split::find(v, at, COMMA);
-        let more = push_host(hosts, &v[at..end], start + at);
-        let fault = more.fault;
-        if !is_fine(fault) {
-            return MoreHosts {
-                fault: fault,
-                hosts: h,
-            };
+        let n = hosts.count;
+        if 16 <= n {
+            fault = Fault::ManyHosts;
+            hosts = h;
+            break;
         }
-        hosts = more.hosts;
+        let host = host_of(byte::at(v, at), start + at, end - at);
+        hosts.list[n] = host;
+        hosts.count = n + 1;
         if v.len() <= end {
-            return MoreHosts {
-                fault: Fault::NoFault,
-                hosts: hosts,
-            };
+            break;
         }
         at = end + 1;
+    }
+    MoreHosts {
+        fault: fault,
+        hosts: hosts,
     }
 }
