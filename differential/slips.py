@@ -35,14 +35,14 @@ SLIPS = [
 """),
     ]),
     ("uri_host_split_at_commas", [
-        ("param", "20 => put_host(c, buffer, start, end),", "20 => put_hosts(c, buffer, start, end),"),
+        ("reader", "    if kind == 20 {\n        return lists::add_host(", "    if kind == 20 {\n        return lists::add_hosts("),
     ]),
     ("character_behind_backslash_dropped", [
         ("keyvalue", "{ at + 1 } else { at }", "{ at + 2 } else { at }"),
     ]),
     ("syntax_judged_before_the_first_setting", [
-        ("reader", "    let mut state = first_state(prefix);\n", """\
-    let mut state = first_state(prefix);
+        ("reader", "    let first = Config::new();\n", """\
+    let first = Config::new();
     let mut ahead = url::start(prefix);
     loop {
         match next_setting(text, uri, ahead) {
@@ -79,26 +79,33 @@ SLIPS = [
     ]),
     # kept values
     ("replaced_value_removed", [
-        ("reader", "// One setting read, written behind", """\
-fn replaced(c: Config, kind: usize) -> config::Text {
+        ("reader", "// What is left of `n`", """\
+fn next_kind(text: &[u8], uri: bool, u: Url) -> usize {
+    match next_setting(text, uri, u) {
+        UrlStep::Given(f) => f.kind,
+        UrlStep::Ended(_) => 0,
+    }
+}
+
+fn replaced(p: config::Plain, kind: usize) -> config::Text {
     match kind {
-        1 => c.user,
-        2 => c.password,
-        3 => c.dbname,
-        4 => c.options,
-        _ => c.application_name,
+        1 => p.user,
+        2 => p.password,
+        3 => p.dbname,
+        4 => p.options,
+        _ => p.application_name,
     }
 }
 
 // The place of the text that is replaced, where nothing stands behind it.
-fn freed(c: Config, kind: usize, packed: usize) -> usize {
+fn freed(p: config::Plain, kind: usize, packed: usize) -> usize {
     if kind == 0 {
         return packed;
     }
     if 5 < kind {
         return packed;
     }
-    let old = replaced(c, kind);
+    let old = replaced(p, kind);
     if !old.set {
         return packed;
     }
@@ -109,25 +116,23 @@ fn freed(c: Config, kind: usize, packed: usize) -> usize {
     packed
 }
 
-// One setting read, written behind"""),
-        ("reader", "            let at = s.packed;\n            let config = s.config;\n", """\
-            let config = s.config;
-            let at = freed(config, kind, s.packed);
-"""),
+// What is left of `n`"""),
+        ("reader", "        let t = take_setting(", """\
+        packed = freed(plain, next_kind(text, uri, url), packed);
+        let t = take_setting("""),
     ]),
     ("replaced_value_wiped", [
-        ("reader", "            let at = s.packed;\n            let config = s.config;\n", """\
-            let at = s.packed;
-            let config = s.config;
-            if kind == 2 {
-                let old = config.password;
-                let place = old.place;
-                byte::clear(decode, place.start, place.len);
-            }
-"""),
+        ("reader", "        let t = take_setting(", """\
+        let ahead = take_setting(text, decode, uri, url, packed);
+        if ahead.kind == 2 {
+            let old = plain.password;
+            let place = old.place;
+            byte::clear(decode, place.start, place.len);
+        }
+        let t = take_setting("""),
     ]),
     ("host_kept_per_piece", [
-        ("reader", "// One setting read, written behind", """\
+        ("reader", "// What is left of `n`", """\
 // Takes the commas out of a part of the buffer, and answers where it ends then.
 fn without_commas(decode: &mut [u8], at: usize, end: usize) -> usize {
     let mut k = at;
@@ -160,8 +165,8 @@ fn nearer(h: lists::Host, by: usize) -> lists::Host {
 }
 
 // The hosts from one on, each nearer by as many commas as stood before it.
-fn closed_up(c: Config, first: usize) -> Config {
-    let mut hosts = c.host;
+fn closed_up(h: Hosts, first: usize) -> Hosts {
+    let mut hosts = h;
     let mut i = first;
     while i < hosts.count {
         let host = hosts.list[i];
@@ -169,22 +174,19 @@ fn closed_up(c: Config, first: usize) -> Config {
         hosts.list[i] = moved;
         i += 1;
     }
-    let mut next = c;
-    next.host = hosts;
-    next
+    hosts
 }
 
-// One setting read, written behind"""),
-        ("reader", "            turn_on(kind, end, then, a, s)\n", """\
-            if kind == 8 {
-                let packed = without_commas(decode, at, end);
-                let hosts = config.host;
-                let fault = a.fault;
-                let closed = closed_up(a.config, hosts.count);
-                let pieces = Applied { fault: fault, config: closed };
-                return turn_on(kind, packed, then, pieces, s);
-            }
-            turn_on(kind, end, then, a, s)
+// What is left of `n`"""),
+        ("reader", "                host = more.hosts;\n                packed = t.packed;\n", """\
+                let at = packed;
+                let before = host.count;
+                host = more.hosts;
+                packed = t.packed;
+                if kind == 8 {
+                    packed = without_commas(decode, at, t.end);
+                    host = closed_up(host, before);
+                }
 """),
     ]),
     ("values_of_every_key_kept", [
@@ -195,7 +197,7 @@ fn closed_up(c: Config, first: usize) -> Config {
         ("reader", "    byte::clear(decode, 0, n);\n", "    byte::clear(decode, n, 0);\n"),
     ]),
     ("refused_setting_counted", [
-        ("reader", "refuse(number, t.key, count)", "refuse(number, t.key, count + 1)"),
+        ("reader", "        lists::key_of(fault, kind),\n        count,\n", "        lists::key_of(fault, kind),\n        count + 1,\n"),
     ]),
     ("longest_text_refused", [
         ("reader", "if 4096 < text.len() {", "if 4096 <= text.len() {"),
@@ -354,7 +356,7 @@ fn last_at_sign(s: &[u8], at: usize) -> usize {
     ]),
     # settings
     ("sixteenth_host_refused", [
-        ("lists", "    let at = h.count;\n    if 16 <= at {\n", "    let at = h.count;\n    if 15 <= at {\n"),
+        ("lists", "        if 16 <= n {\n            fault = Fault::ManyHosts;", "        if 15 <= n {\n            fault = Fault::ManyHosts;"),
     ]),
     ("room_judged_before_form", [
         ("lists", "    if piece.len() == 0 {\n        return keep_port", """\
