@@ -23,23 +23,26 @@ fn take(name: &[u8], a: Answer) -> Config {
     a.config
 }
 
-fn set_words(c: Config) -> Config {
+fn set_ssl(c: Config) -> Config {
     let a = take(b"ssl_mode", setters::ssl_mode(c, SslMode::Require));
-    let b = take(
+    take(
         b"ssl_negotiation",
         setters::ssl_negotiation(a, SslNegotiation::Direct),
-    );
-    let d = take(
+    )
+}
+
+fn set_words(c: Config) -> Config {
+    let a = take(
         b"target_session_attrs",
-        setters::target_session_attrs(b, TargetSessionAttrs::ReadWrite),
+        setters::target_session_attrs(c, TargetSessionAttrs::ReadWrite),
     );
-    let e = take(
+    let b = take(
         b"channel_binding",
-        setters::channel_binding(d, ChannelBinding::Disable),
+        setters::channel_binding(a, ChannelBinding::Disable),
     );
     take(
         b"load_balance_hosts",
-        setters::load_balance_hosts(e, LoadBalanceHosts::Random),
+        setters::load_balance_hosts(b, LoadBalanceHosts::Random),
     )
 }
 
@@ -47,10 +50,13 @@ fn set_words(c: Config) -> Config {
 fn set_times(c: Config) -> Config {
     let a = take(b"connect_timeout", setters::connect_timeout(c, 0));
     let b = take(b"tcp_user_timeout", setters::tcp_user_timeout(a, 30));
-    let d = take(b"keepalives_idle", setters::keepalives_idle(b, 0));
-    let e = take(b"keepalives_interval", setters::keepalives_interval(d, 7));
-    let f = take(b"keepalives", setters::keepalives(e, false));
-    take(b"keepalives_retries", setters::keepalives_retries(f, 3))
+    take(b"keepalives_idle", setters::keepalives_idle(b, 0))
+}
+
+fn set_probes(c: Config) -> Config {
+    let a = take(b"keepalives_interval", setters::keepalives_interval(c, 7));
+    let b = take(b"keepalives", setters::keepalives(a, false));
+    take(b"keepalives_retries", setters::keepalives_retries(b, 3))
 }
 
 fn set_lists(c: Config) -> Config {
@@ -106,8 +112,8 @@ fn forge(c: Config) {
 
 fn change(c: Config, decode: &[u8]) {
     put_report(c, decode);
-    let words = set_words(c);
-    let times = set_times(words);
+    let words = set_words(set_ssl(c));
+    let times = set_probes(set_times(words));
     let lists = set_lists(times);
     put_report(lists, decode);
     let own = fill_ports(set_in_place(lists));
