@@ -166,6 +166,12 @@ glance s at e =
     ap (λ (c : Char). isSpace (c .code)) (front s at within) ∙ apart (getD s at 0) (getD s (at + 1) 0) (getD s (at + 2) 0) (getD s (at + 3) 0) (solid-is (getD s at 0) e)
 
 -- white space at a place: a blank, none with a solid byte, or as the character that is read there says
+pub blank-starts : (s : List ℕ) (at : ℕ) → getD s at 0 ≡ 32 → startsSpace (drop at s) ≡ true
+unfolding startsSpace
+blank-starts s at e =
+    let within : at < length s = past (λ (b : ℕ). eqb b 32) refl s at (eq-eqb (getD s at 0) 32 e) in
+    ap (λ (c : Char). isSpace (c .code)) (ascii s at within (omega arith)) ∙ ap isSpace e ∙ blank
+
 pub blank-len : (s : List ℕ) (at : ℕ) → getD s at 0 ≡ 32 → spaceLen (drop at s) ≡ 1
 unfolding spaceLen startsSpace
 blank-len s at e =
@@ -180,6 +186,14 @@ solid-len s at e = rw (glance s at e)
 pub read-len : (s : List ℕ) (at : ℕ) (x : Char) (t : Bool) → x ≡ charAt (drop at s) → t ≡ isSpace (x .code) → pick t (x .len) 0 ≡ spaceLen (drop at s)
 unfolding spaceLen startsSpace
 read-len s at x t e f = rw (f, e)
+
+or-true : (t : Bool) → t || true ≡ true
+or-true true = refl
+or-true false = refl
+
+or-false : (t : Bool) → t || false ≡ t
+or-false true = refl
+or-false false = refl
 
 -- a key ends at a place, or goes on behind the byte there
 key-none : (t : List ℕ) → endsKey t ≡ true → keyLen t ≡ 0
@@ -204,6 +218,15 @@ module _ (s : List ℕ) (i : ℕ) where
   pub at-sign : (b : ℕ) → b ≡ getD s i 0 → startsSpace (drop i s) ≡ false → eqb b 61 ≡ endsKey (drop i s)
   unfolding endsKey
   at-sign b e n = rw (n, getD-drop i s 0 0, add-zero i, e)
+
+  -- where `=` stands a key ends, and elsewhere white space decides
+  pub sign-ends : getD s i 0 ≡ 61 → endsKey (drop i s) ≡ true
+  unfolding endsKey
+  sign-ends e = rw (getD-drop i s 0 0, add-zero i, e) (or-true (startsSpace (drop i s)))
+
+  pub sign-not : (getD s i 0 ≡ 61 → ⊥) → startsSpace (drop i s) ≡ endsKey (drop i s)
+  unfolding endsKey
+  sign-not n = rw (getD-drop i s 0 0, add-zero i, ne-eqb (getD s i 0) 61 n) (sym (or-false (startsSpace (drop i s))))
 
   -- the test for `'`
   quote-is : startsQuote (drop i s) ≡ eqb (getD s i 0) 39

@@ -45,8 +45,12 @@ fn is_solid(b: u8) -> bool
 fn starts_space(s: &[u8], at: usize) -> bool
     ensures { λ r. ⌜ r ≡ startsSpace (drop at (now (s .entry))) ⌝ }
 {
-    if is_solid(byte::at(s, at)) {
+    let b = byte::at(s, at);
+    if is_solid(b) {
         return false;
+    }
+    if b == b' ' {
+        return true;
     }
     let c = utf8::char_at(s, at);
     let code = c.code;
@@ -72,8 +76,8 @@ fn space_len(s: &[u8], at: usize) -> usize
     0
 }
 
-// Skips white space, and answers the place behind it.
-fn skip_ws(s: &[u8], at: usize) -> usize
+// The place behind white space, one character a turn.
+fn skip_spaces(s: &[u8], at: usize) -> usize
     ensures { λ r. ⌜ r ≡ endOf spaceLen (now (s .entry)) at ⌝ }
 {
     let mut i = at;
@@ -86,14 +90,24 @@ fn skip_ws(s: &[u8], at: usize) -> usize
     }
 }
 
+// Skips white space, and answers the place behind it; most places have none.
+fn skip_ws(s: &[u8], at: usize) -> usize
+    ensures { λ r. ⌜ r ≡ endOf spaceLen (now (s .entry)) at ⌝ }
+{
+    if is_solid(byte::at(s, at)) {
+        return at;
+    }
+    skip_spaces(s, at)
+}
+
 // Whether a key ends at a place.
 fn key_ends(s: &[u8], at: usize) -> bool
     ensures { λ r. ⌜ r ≡ endsKey (drop at (now (s .entry))) ⌝ }
 {
-    if starts_space(s, at) {
+    if byte::at(s, at) == b'=' {
         return true;
     }
-    byte::at(s, at) == b'='
+    starts_space(s, at)
 }
 
 // The place behind a key; most of its bytes are seen at a glance not to end it.

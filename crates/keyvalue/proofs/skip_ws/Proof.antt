@@ -1,45 +1,31 @@
--- `skip_ws` meets its contract: each turn leaves the run's end where it is, and the run stops where no white space begins. Assumes nothing.
-use borrow.Author.Needs.{needs}
-use mathlib.Core.Path.{_≡_, refl, sym, _∙_}
-use Prim.Native.Nat.{_-_}
-use native.Mathlib.Omega.{arith}
-use lib.ListN.{length}
-use Rattle.keyvalue.specs.Scan.{endOf, spaceLen}
+-- `skip_ws` meets its contract: with a solid byte the run stops at once. Assumes nothing.
+use mathlib.Core.Path.{sym, ap, _∙_}
+use Rattle.keyvalue.specs.Scan.{solid, spaceLen}
 use Rattle.keyvalue.proofs.Runs.{end-stop}
-use Rattle.keyvalue.proofs.Rules.{Skip, space-more}
+use Rattle.keyvalue.proofs.Rules.{solid-len}
+use borrow.Author.Needs.{needs}
 use Rattle.keyvalue.proofs.skip_ws.Statement.{statement}
 use Rattle.keyvalue.proofs.skip_ws.Tie as tie
 
-abbrev Inv-loop : tie.InvT-loop
-Inv-loop s at i₀ i = endOf spaceLen s at ≡ endOf spaceLen s i
+at-requires : tie.Need-at-requires
+at-requires c κs = search needs
 
-abbrev μ-loop : tie.MeasureT-loop
-μ-loop s at i₀ i = length s - i
+is-solid-requires : tie.Need-is-solid-requires
+is-solid-requires c κs = search needs
 
-loop-holds : tie.Need-loop-holds Inv-loop μ-loop
-loop-holds c = refl
-
-space-len-requires : tie.Need-space-len-requires Inv-loop μ-loop
-space-len-requires c κs = search needs
-
-returns : tie.Need-returns Inv-loop μ-loop
+returns : tie.Need-returns
 returns c =
-    let l = c .before .before in
-    sym (l .loop .inv ∙ end-stop spaceLen (l .before .before .args .s .now) (l .loop .i) (sym (c .before .space-len .ensures) ∙ c .if1 .taken))
+    let a = c .before .before .before .before .args in
+    let b = c .before in
+    sym (end-stop spaceLen (a .s .now) (a .at) (solid-len (a .s .now) (a .at) (ap solid (sym (b .before .at .ensures)) ∙ sym (b .is-solid .ensures) ∙ c .if1 .taken)))
 
-turn : (c : tie.Else1 Inv-loop μ-loop) → Skip (c .before .before .before .before .args .s .now) (c .before .before .loop .i) (c .before .space-len .result)
-turn c = space-more _ _ _ (c .before .space-len .ensures) (c .if1 .left)
+skip-spaces-requires : tie.Need-skip-spaces-requires
+skip-spaces-requires c κs = search needs
 
-add-i : tie.Need-add-i Inv-loop μ-loop
-add-i c = omega (arith, turn c)
-
-loop-less : tie.Need-loop-less Inv-loop μ-loop
-loop-less c = omega (arith, turn c, c .if1 .left)
-
-loop-again : tie.Need-loop-again Inv-loop μ-loop
-loop-again c = c .before .before .loop .inv ∙ turn c .same
+returns-2 : tie.Need-returns-2
+returns-2 c = c .skip-spaces .ensures
 
 pub skip-ws-spec : {M : Type 1} → statement M
 skip-ws-spec =
     tie.close
-    (tie.spec Inv-loop μ-loop loop-holds space-len-requires returns add-i loop-less loop-again)
+    (tie.spec at-requires is-solid-requires returns skip-spaces-requires returns-2)
