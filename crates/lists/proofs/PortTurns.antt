@@ -4,15 +4,17 @@ use Prim.Native.Nat.{ℕ, _+_, _-_, _<_, _≤_}
 use mathlib.Core.Path.{_≡_, refl, sym, ap, _∙_}
 use mathlib.Core.Bool.{true, false}
 use mathlib.Core.List.{List}
-use lib.ListN.{length, take, drop}
+use lib.ListN.{length, set, take, drop}
 use Rattle.split.specs.Split.{firstAt}
+use Rattle.number.specs.declared.Number16.{Number16}
 use Rattle.lists.specs.declared.Fault.{Fault}
 use Rattle.lists.specs.declared.Ports.{Ports}
 use Rattle.lists.specs.declared.MorePorts.{MorePorts}
 use Rattle.lists.specs.Fault.{isFine}
 use Rattle.lists.specs.Append.{More, appendFrom}
-use Rattle.lists.specs.Lists.{portPiece, portSlots, morePorts, portPushed, portsAfter}
-use Rattle.lists.proofs.Turns.{left, left-all, turn-on, turn-last, turn-stop}
+use Rattle.lists.specs.Lists.{portPiece, portNumber, portSlots, morePorts, portPushed, portsAfter}
+use Rattle.lists.proofs.Pieces.{port-pushed}
+use Rattle.lists.proofs.Turns.{kept-room, kept-full, left, left-all, turn-on, turn-last, turn-stop}
 
 -- the list after what is left of a value from a place on
 abbrev pub portsFrom : Ports → Ports → List ℕ → ℕ → MorePorts
@@ -27,14 +29,45 @@ module _ (p s : Ports) (v : List ℕ) (at end : ℕ) (found : end ≡ at + first
   abbrev as-more : MorePorts → More ℕ
   as-more x = record { fault = x .fault; slots = portSlots (x .ports) }
 
-  pub ports-on : isFine (m .fault) ≡ true → end < length v → portsFrom p s v at ≡ portsFrom p (m .ports) v (end + 1)
+  ports-on : isFine (m .fault) ≡ true → end < length v → portsFrom p s v at ≡ portsFrom p (m .ports) v (end + 1)
   unfolding portPushed
   ports-on e h = ap morePorts (turn-on (λ (n : ℕ). portPiece) Fault.ManyPorts (portSlots p) (portSlots s) 0 v at end found low (as-more m) (ap as-more is) e h)
 
-  pub ports-last : isFine (m .fault) ≡ true → length v ≤ end → portsFrom p s v at ≡ record { fault = Fault.NoFault; ports = m .ports }
+  ports-last : isFine (m .fault) ≡ true → length v ≤ end → portsFrom p s v at ≡ record { fault = Fault.NoFault; ports = m .ports }
   unfolding portPushed
   ports-last e h = ap morePorts (turn-last (λ (n : ℕ). portPiece) Fault.ManyPorts (portSlots p) (portSlots s) 0 v at end found low (as-more m) (ap as-more is) e h)
 
-  pub ports-stop : isFine (m .fault) ≡ false → portsFrom p s v at ≡ record { fault = m .fault; ports = p }
+  ports-stop : isFine (m .fault) ≡ false → portsFrom p s v at ≡ record { fault = m .fault; ports = p }
   unfolding portPushed
   ports-stop e = ap morePorts (turn-stop (λ (n : ℕ). portPiece) Fault.ManyPorts (portSlots p) (portSlots s) 0 v at end found low (as-more m) (ap as-more is) e)
+
+-- a list with a port stored behind its last
+abbrev withPort : Ports → ℕ → Ports
+withPort s n = record { list = set (s .list) (s .count) n; count = s .count + 1 }
+
+-- a turn, told by what is read and stored: the piece is none or too great, the list is full, it goes on, or ends
+module _ (p s : Ports) (v : List ℕ) (at end : ℕ) (found : end ≡ at + firstAt 44 (drop at v)) (low : at ≤ length v) where
+  abbrev piece : List ℕ
+  piece = take (end - at) (drop at v)
+
+  pub ports-form : Number16.Form ≡ portNumber piece → portsFrom p s v at ≡ record { fault = Fault.Form; ports = p }
+  ports-form e = ports-stop p s v at end found low (record { fault = Fault.Form; ports = s }) (port-pushed s piece Number16.Form e) refl
+
+  pub ports-range : Number16.Range ≡ portNumber piece → portsFrom p s v at ≡ record { fault = Fault.Range; ports = p }
+  ports-range e = ports-stop p s v at end found low (record { fault = Fault.Range; ports = s }) (port-pushed s piece Number16.Range e) refl
+
+  module _ (n : ℕ) (is : Number16.Is n ≡ portNumber piece) where
+    pub ports-full : 16 ≤ s .count → portsFrom p s v at ≡ record { fault = Fault.ManyPorts; ports = p }
+    ports-full h =
+        ports-stop p s v at end found low (record { fault = Fault.ManyPorts; ports = s })
+        (ap morePorts (kept-full Fault.ManyPorts (portSlots s) n h) ∙ port-pushed s piece (Number16.Is n) is) refl
+
+    module _ (room : s .count < 16) where
+      stored : record { fault = Fault.NoFault; ports = withPort s n } ≡ portPushed s piece
+      stored = ap morePorts (kept-room Fault.ManyPorts (portSlots s) n room) ∙ port-pushed s piece (Number16.Is n) is
+
+      pub ports-next : end < length v → portsFrom p s v at ≡ portsFrom p (withPort s n) v (end + 1)
+      ports-next h = ports-on p s v at end found low (record { fault = Fault.NoFault; ports = withPort s n }) stored refl h
+
+      pub ports-done : length v ≤ end → portsFrom p s v at ≡ record { fault = Fault.NoFault; ports = withPort s n }
+      ports-done h = ports-last p s v at end found low (record { fault = Fault.NoFault; ports = withPort s n }) stored refl h

@@ -6,7 +6,8 @@ use lib.Dec.{eqb}
 use lib.ListN.{length, getD}
 use Rattle.byte.specs.Byte.{pick}
 use Rattle.number.specs.declared.Number.{Number}
-use Rattle.number.specs.Number.{unsignedOf}
+use Rattle.number.specs.declared.Number16.{Number16}
+use Rattle.number.specs.Number.{unsignedOf, as16}
 use Rattle.address.specs.declared.Address.{Address}
 use Rattle.address.specs.declared.AddressRead.{AddressRead}
 use Rattle.address.specs.Address.{addressOf}
@@ -29,6 +30,10 @@ portRead Number.Range = bad Fault.Range
 
 unfoldable pub portPiece : List ℕ → Piece ℕ
 portPiece v = pick (eqb (length v) 0) (good 5432) (portRead (unsignedOf 65535 v))
+
+-- the same as a number of 16 bits
+unfoldable pub portNumber : List ℕ → Number16
+portNumber v = pick (eqb (length v) 0) (Number16.Is 5432) (as16 (unsignedOf 65535 v))
 
 abbrev pub addressRead : AddressRead → Piece Address
 addressRead (AddressRead.Is a) = good a

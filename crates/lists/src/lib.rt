@@ -4,7 +4,7 @@ ghost use Prim.Native.Nat.{_+_};
 ghost use lib.ListN.{length};
 ghost use Rattle.byte.specs.Byte.{partOf};
 ghost use Rattle.lists.specs.Fault.{isFine, numberOf, keyOf};
-ghost use Rattle.lists.specs.Lists.{hostOf, hostPushed, hostAfter, hostsAfter, portKept, portPushed, portsAfter, addressKept, addressPushed, addressesAfter};
+ghost use Rattle.lists.specs.Lists.{hostOf, hostAfter, hostsAfter, portNumber, portKept, portsAfter, addressKept, addressesAfter};
 use address::Address;
 use address::AddressRead;
 use number::Number16;
@@ -115,14 +115,14 @@ pub fn key_of(f: Fault, key: usize) -> usize
 pub fn keep_port(p: Ports, port: u16) -> MorePorts
     ensures { λ r. ⌜ r ≡ portKept p port ⌝ }
 {
-    let at = p.count;
+    let mut next = p;
+    let at = next.count;
     if 16 <= at {
         return MorePorts {
             fault: Fault::ManyPorts,
-            ports: p,
+            ports: next,
         };
     }
-    let mut next = p;
     next.list[at] = port;
     next.count = at + 1;
     MorePorts {
@@ -131,27 +131,17 @@ pub fn keep_port(p: Ports, port: u16) -> MorePorts
     }
 }
 
-// One piece: its form and range are judged before room for it; an empty one is 5432.
-fn push_port(p: Ports, piece: &[u8]) -> MorePorts
-    ensures { λ r. ⌜ r ≡ portPushed p (now (piece .entry)) ⌝ }
+// What a piece says; an empty one is 5432.
+fn read_port(piece: &[u8]) -> Number16
+    ensures { λ r. ⌜ r ≡ portNumber (now (piece .entry)) ⌝ }
 {
     if piece.len() == 0 {
-        return keep_port(p, 5432);
+        return Number16::Is(5432);
     }
-    match number::read_u16(piece) {
-        Number16::Is(n) => keep_port(p, n),
-        Number16::Form => MorePorts {
-            fault: Fault::Form,
-            ports: p,
-        },
-        Number16::Range => MorePorts {
-            fault: Fault::Range,
-            ports: p,
-        },
-    }
+    number::read_u16(piece)
 }
 
-// The pieces between commas, left to right.
+// The pieces between commas, left to right: form and range of each are judged before room for it.
 pub fn add_ports(p: Ports, v: &[u8]) -> MorePorts
     ensures { λ r. ⌜ r ≡ portsAfter p (now (v .entry)) ⌝ }
 {
@@ -159,22 +149,35 @@ pub fn add_ports(p: Ports, v: &[u8]) -> MorePorts
     let mut at = 0;
     loop {
         let end = split::find(v, at, COMMA);
-        let more = push_port(ports, &v[at..end]);
-        let fault = more.fault;
-        if !is_fine(fault) {
-            return MorePorts {
-                fault: fault,
+        let read = read_port(&v[at..end]);
+        match read {
+            Number16::Form => return MorePorts {
+                fault: Fault::Form,
                 ports: p,
-            };
+            },
+            Number16::Range => return MorePorts {
+                fault: Fault::Range,
+                ports: p,
+            },
+            Number16::Is(port) => {
+                let n = ports.count;
+                if 16 <= n {
+                    return MorePorts {
+                        fault: Fault::ManyPorts,
+                        ports: p,
+                    };
+                }
+                ports.list[n] = port;
+                ports.count = n + 1;
+                if v.len() <= end {
+                    return MorePorts {
+                        fault: Fault::NoFault,
+                        ports: ports,
+                    };
+                }
+                at = end + 1;
+            }
         }
-        ports = more.ports;
-        if v.len() <= end {
-            return MorePorts {
-                fault: Fault::NoFault,
-                ports: ports,
-            };
-        }
-        at = end + 1;
     }
 }
 
@@ -182,14 +185,14 @@ pub fn add_ports(p: Ports, v: &[u8]) -> MorePorts
 pub fn keep_address(a: Addresses, address: Address) -> MoreAddresses
     ensures { λ r. ⌜ r ≡ addressKept a address ⌝ }
 {
-    let at = a.count;
+    let mut next = a;
+    let at = next.count;
     if 16 <= at {
         return MoreAddresses {
             fault: Fault::ManyHostaddrs,
-            addresses: a,
+            addresses: next,
         };
     }
-    let mut next = a;
     next.list[at] = address;
     next.count = at + 1;
     MoreAddresses {
@@ -198,7 +201,7 @@ pub fn keep_address(a: Addresses, address: Address) -> MoreAddresses
     }
 }
 
-// The pieces between commas, left to right.
+// The pieces between commas, left to right: the form of each is judged before room for it.
 pub fn add_addresses(a: Addresses, v: &[u8]) -> MoreAddresses
     ensures { λ r. ⌜ r ≡ addressesAfter a (now (v .entry)) ⌝ }
 {
@@ -208,12 +211,10 @@ pub fn add_addresses(a: Addresses, v: &[u8]) -> MoreAddresses
         let end = split::find(v, at, COMMA);
         let read = address::read_address(&v[at..end]);
         match read {
-            AddressRead::Not => {
-                return MoreAddresses {
-                    fault: Fault::NoAddress,
-                    addresses: a,
-                };
-            }
+            AddressRead::Not => return MoreAddresses {
+                fault: Fault::NoAddress,
+                addresses: a,
+            },
             AddressRead::Is(address) => {
                 let n = addresses.count;
                 if 16 <= n {
@@ -257,15 +258,15 @@ pub fn add_host(h: Hosts, buffer: &[u8], start: usize, end: usize) -> MoreHosts
     ensures { λ r. ⌜ r ≡ hostAfter h start (partOf start end (now (buffer .entry))) ⌝ }
 {
     let v = byte::part(buffer, start, end);
-    let n = h.count;
+    let mut hosts = h;
+    let n = hosts.count;
     if 16 <= n {
         return MoreHosts {
             fault: Fault::ManyHosts,
-            hosts: h,
+            hosts: hosts,
         };
     }
     let host = host_of(byte::at(v, 0), start, v.len());
-    let mut hosts = h;
     hosts.list[n] = host;
     hosts.count = n + 1;
     MoreHosts {
