@@ -359,15 +359,14 @@ fn last_at_sign(s: &[u8], at: usize) -> usize {
         ("lists", "        if 16 <= n {\n            fault = Fault::ManyHosts;", "        if 15 <= n {\n            fault = Fault::ManyHosts;"),
     ]),
     ("room_judged_before_form", [
-        ("lists", "    if piece.len() == 0 {\n        return keep_port", """\
-    if 16 <= p.count {
-        return MorePorts { fault: Fault::ManyPorts, ports: p };
-    }
-    if piece.len() == 0 {
-        return keep_port"""),
+        ("lists", "        let read = read_port(", """\
+        if 16 <= ports.count {
+            return MorePorts { fault: Fault::ManyPorts, ports: p };
+        }
+        let read = read_port("""),
     ]),
     ("empty_port_piece_refused", [
-        ("lists", "        return keep_port(p, 5432);\n", "        return MorePorts { fault: Fault::Form, ports: p };\n"),
+        ("lists", "        return Number16::Is(5432);\n", "        return Number16::Form;\n"),
     ]),
     ("zero_timeout_stored", [
         ("number_keys", "    if seconds == 0 {\n        return old;\n    }\n", ""),
