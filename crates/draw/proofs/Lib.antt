@@ -2,3 +2,4 @@ pub mod Parts
 pub mod Drawing
 pub mod Escape
 pub mod Whole
+pub mod Plain

@@ -11,6 +11,11 @@ use Rattle.decimal.specs.Decimal.{hexDigits}
 abbrev pub plain : ℕ → Bool
 plain b = between 0x21 0x7E b && not (eqb b 37)
 
+-- whether all bytes of a text stand as they are
+unfoldable pub allPlain : List ℕ → Bool
+allPlain [] = true
+allPlain (b ∷ x) = plain b && allPlain x
+
 unfoldable pub escape : ℕ → List ℕ
 escape b = pick (plain b) (b ∷ []) (37 ∷ hexDigits true 2 b)
 

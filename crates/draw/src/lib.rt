@@ -2,11 +2,13 @@
 ghost use mathlib.Core.Path.{_≡_};
 ghost use mathlib.Core.Bool.{_&&_, false};
 ghost use mathlib.Core.List.{[], _∷_};
+ghost use lib.Dec.{ltb};
 ghost use lib.ListN.{length};
+ghost use Rattle.byte.specs.Byte.{pick};
 ghost use Rattle.byte.specs.Put.{written, after};
 ghost use Rattle.names.specs.Names.{keyName, wordName};
 ghost use Rattle.decimal.specs.Decimal.{decimal, hexDigits};
-ghost use Rattle.draw.specs.Escape.{plain, escape, textValue};
+ghost use Rattle.draw.specs.Escape.{plain, allPlain, escape, textValue};
 ghost use Rattle.draw.specs.Pen.{moved, sheet, drawn};
 
 // The place of the next byte; whether all before it had room; whether bytes are written, or only counted.
@@ -165,8 +167,34 @@ pub fn put_escape(b: u8, dst: &mut [u8], pen: Pen) -> Pen
     next
 }
 
-// A text, byte by byte.
-pub fn put_text(x: &[u8], dst: &mut [u8], pen: Pen) -> Pen
+// 0 for a byte that stands as it is, 1 for one that is escaped.
+fn mark(b: u8) -> u8
+    ensures { λ r. ⌜ r ≡ pick (plain b) 0 1 ⌝ }
+{
+    if is_plain(b) { 0 } else { 1 }
+}
+
+fn greater(a: u8, b: u8) -> u8
+    ensures { λ r. ⌜ r ≡ pick (ltb a b) b a ⌝ }
+{
+    if a < b { b } else { a }
+}
+
+// Whether every byte stands as it is: by the greatest mark, since a loop that leaves early is not made into wide steps.
+fn all_plain(x: &[u8]) -> bool
+    ensures { λ r. ⌜ r ≡ allPlain (now (x .entry)) ⌝ }
+{
+    let mut most = 0u8;
+    let mut i = 0;
+    while i < x.len() {
+        most = greater(most, mark(x[i]));
+        i += 1;
+    }
+    most == 0
+}
+
+// A text, byte by byte: as much of it as has room.
+fn put_escapes(x: &[u8], dst: &mut [u8], pen: Pen) -> Pen
     ensures { λ r. ⌜ sheet (now (dst .exit)) r ≡ drawn (sheet (now (dst .entry)) pen) (textValue (now (x .entry))) ⌝ }
 {
     let mut p = pen;
@@ -176,4 +204,18 @@ pub fn put_text(x: &[u8], dst: &mut [u8], pen: Pen) -> Pen
         i += 1;
     }
     p
+}
+
+// A text: copied where all of it stands as it is and has room.
+pub fn put_text(x: &[u8], dst: &mut [u8], pen: Pen) -> Pen
+    ensures { λ r. ⌜ sheet (now (dst .exit)) r ≡ drawn (sheet (now (dst .entry)) pen) (textValue (now (x .entry))) ⌝ }
+{
+    if !all_plain(x) {
+        return put_escapes(x, dst, pen);
+    }
+    let next = move_by(pen, x.len(), dst.len());
+    if !next.ok {
+        return put_escapes(x, dst, pen);
+    }
+    put_bytes(x, dst, pen)
 }

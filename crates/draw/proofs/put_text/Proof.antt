@@ -1,59 +1,60 @@
-use Prim.Native.Nat.{_-_}
-use mathlib.Core.Path.{_≡_, refl}
-use native.Mathlib.Omega.{arith}
-use lib.ListN.{length, drop}
+use mathlib.Core.Path.{sym, ap, _∙_}
+use mathlib.Core.Bool.{Bool}
+use borrow.Author.Tests.{not-true, not-false}
+use Rattle.draw.specs.declared.Pen.{Pen}
+use Rattle.draw.proofs.Plain.{plain-drawn}
 use borrow.Author.Needs.{needs}
-use Rattle.draw.specs.Escape.{textValue}
-use Rattle.draw.specs.Pen.{sheet, drawn}
-use Rattle.draw.proofs.Drawing.{drawn-alike}
-use Rattle.draw.proofs.Escape.{text-more, text-done}
 use Rattle.draw.proofs.put_text.Statement.{statement}
 use Rattle.draw.proofs.put_text.Tie as tie
 
-abbrev Inv-loop : tie.InvT-loop
-Inv-loop x dst₀ p₀ i₀ dst p i = drawn (sheet dst₀ p₀) (textValue x) ≡ drawn (sheet dst p) (textValue (drop i x))
+all-plain-requires : tie.Need-all-plain-requires
+all-plain-requires c κs = search needs
 
-abbrev μ-loop : tie.MeasureT-loop
-μ-loop x dst₀ p₀ i₀ dst p i = length x - i
+put-escapes-requires : tie.Need-put-escapes-requires
+put-escapes-requires c κs = search needs
 
-loop-holds : tie.Need-loop-holds Inv-loop μ-loop
-loop-holds c = refl
+same-length : tie.Need-same-length
+same-length c = search needs
 
-shared-slice-read-put-escape : tie.Need-shared-slice-read-put-escape Inv-loop μ-loop
-shared-slice-read-put-escape c = omega arith
+returns : tie.Need-returns
+returns c = search needs
 
-put-escape-requires : tie.Need-put-escape-requires Inv-loop μ-loop
-put-escape-requires c κs = search needs
+move-by-requires : tie.Need-move-by-requires
+move-by-requires c κs = search needs
 
-add-i : tie.Need-add-i Inv-loop μ-loop
-add-i c = omega arith
+put-escapes-requires-2 : tie.Need-put-escapes-requires-2
+put-escapes-requires-2 c κs = search needs
 
-loop-less : tie.Need-loop-less Inv-loop μ-loop
-loop-less c = omega arith
+same-length-2 : tie.Need-same-length-2
+same-length-2 c = search needs
 
-loop-again : tie.Need-loop-again Inv-loop μ-loop
-loop-again c =
+returns-2 : tie.Need-returns-2
+returns-2 c = search needs
+
+put-bytes-requires : tie.Need-put-bytes-requires
+put-bytes-requires c κs = search needs
+
+same-length-3 : tie.Need-same-length-3
+same-length-3 c = search needs
+
+returns-3 : tie.Need-returns-3
+returns-3 c =
     let p = c .before .before in
-    let l = p .before .before .before in
-    text-more _ _ _ (l .before .loop .i) (l .before .loop .inv) (l .loop-test .taken) _ (p .put-escape .ensures)
-
-same-length : tie.Need-same-length Inv-loop μ-loop
-same-length c = drawn-alike _ _ _ _ (c .before .loop .inv)
-
-returns : tie.Need-returns Inv-loop μ-loop
-returns c = text-done _ _ _ (c .before .loop .i) (c .before .loop .inv) (c .loop-test .left)
+    let n = p .before .before in
+    p .put-bytes .ensures ∙ plain-drawn _ _ _ (sym (n .before .before .before .before .all-plain .ensures) ∙ not-false _ (n .before .before .before .if1 .left)) (ap (λ (q : Pen). q .ok) (sym (n .before .before .move-by .ensures)) ∙ not-false _ (n .if2 .left))
 
 pub put-text-spec : {M : Type 1} → statement M
 put-text-spec =
     tie.close
     (tie.spec
-    Inv-loop
-    μ-loop
-    loop-holds
-    shared-slice-read-put-escape
-    put-escape-requires
-    add-i
-    loop-less
-    loop-again
+    all-plain-requires
+    put-escapes-requires
     same-length
-    returns)
+    returns
+    move-by-requires
+    put-escapes-requires-2
+    same-length-2
+    returns-2
+    put-bytes-requires
+    same-length-3
+    returns-3)
