@@ -1,4 +1,5 @@
 pub mod Groups
+pub mod Most
 pub mod Told
 pub mod Exactly
 pub mod Examples

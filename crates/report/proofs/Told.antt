@@ -19,17 +19,15 @@ use Rattle.draw.proofs.Whole.{pen, stopped, counted-all, uncounted-all, inked-a
 use Rattle.config.specs.declared.Config.{Config}
 use Rattle.config.specs.Values.{shown}
 use Rattle.config.specs.Sound.{sound}
+use Rattle.room.specs.Room.{surelyFits}
 use Rattle.report.specs.declared.Answer.{Answer}
 use Rattle.report.specs.Report.{values, report}
 use Rattle.report.specs.Answer.{reported, reportedInto}
+use Rattle.report.proofs.Most.{surely}
 
 module _ (b : List ℕ) (c : Config) (d : List ℕ) where
   abbrev parts : List (List ℕ)
   parts = linesFrom 1 (values (shown b c))
-
-  long : length (report (shown b c)) ≡ length (joined parts)
-  unfolding report
-  long = refl
 
   -- 17
   module _ (e : sound (length b) c ≡ false) where
@@ -41,43 +39,50 @@ module _ (b : List ℕ) (c : Config) (d : List ℕ) where
     unfolding reportedInto
     left-unsound = rw e
 
-  module _ (s : sound (length b) c ≡ true) (d' : List ℕ) (p : Pen) (m : sheet d' p ≡ drawn (sheet d (pen 0 false)) parts) where
-    -- whether it fits, by the pen that counted
-    fits : (t : Bool) → leb (length (joined parts)) (length d) ≡ t → (p .ok ≡ t) × (d' ≡ d)
-    fits true e =
+  -- whether it fits: surely, or by the pen that counted
+  pub fits-surely : surelyFits (length d) c ≡ true → true ≡ leb (length (report (shown b c))) (length d)
+  fits-surely e = sym (le-leb _ _ (surely b c (length d) e))
+
+  module _ (d' : List ℕ) (p : Pen) (m : sheet d' p ≡ drawn (sheet d (pen 0 false)) parts) where
+    counts : (t : Bool) → leb (length (joined parts)) (length d) ≡ t → (p .ok ≡ t) × (d' ≡ d)
+    counts true e =
         let f : sheet d' p ≡ sheet d (pen (length (joined parts)) false) = m ∙ counted-all d parts (leb-true _ _ e) in
         (ap (λ (x : Sheet). x .pen .ok) f, ap (λ (x : Sheet). x .bytes) f)
-    fits false e =
+    counts false e =
         let f : sheet d' p ≡ sheet d (stopped false) = m ∙ uncounted-all d parts (leb-false _ _ e) in
         (ap (λ (x : Sheet). x .pen .ok) f, ap (λ (x : Sheet). x .bytes) f)
 
-    test : leb (length (joined parts)) (length d) ≡ p .ok
-    test = sym (fits _ refl .0)
+    pub fits-measured : p .ok ≡ leb (length (report (shown b c))) (length d)
+    unfolding report
+    fits-measured = counts _ refl .0
 
     pub untouched : d' ≡ d
-    untouched = fits _ refl .1
+    untouched = counts _ refl .1
 
+  module _ (s : sound (length b) c ≡ true) (d' : List ℕ) (same : d' ≡ d) where
     -- 16
-    pub told-short : p .ok ≡ false → Answer.Short ≡ reported b c (length d)
-    unfolding reported report
-    told-short e = rw (s, test ∙ e)
+    module _ (e : leb (length (report (shown b c))) (length d) ≡ false) where
+      pub told-short : Answer.Short ≡ reported b c (length d)
+      unfolding reported
+      told-short = rw (s, e)
 
-    pub left-short : p .ok ≡ false → d' ≡ reportedInto b c d
-    unfolding reportedInto report
-    left-short e = untouched ∙ sym (rw s (written-short d 0 (joined parts) (let l : length d < length (joined parts) = leb-false _ _ (test ∙ e) in omega arith)))
+      pub left-short : d' ≡ reportedInto b c d
+      unfolding reportedInto
+      left-short = same ∙ sym (rw s (written-short d 0 (report (shown b c)) (let l : length d < length (report (shown b c)) = leb-false _ _ e in omega arith)))
 
     -- the report
-    module _ (ok : p .ok ≡ true) (d'' : List ℕ) (q : Pen) (w : sheet d'' q ≡ drawn (sheet d' (pen 0 true)) parts) where
-      room : length (joined parts) ≤ length d
-      room = leb-true _ _ (test ∙ ok)
+    module _ (e : leb (length (report (shown b c))) (length d) ≡ true) (d'' : List ℕ) (q : Pen) (w : sheet d'' q ≡ drawn (sheet d' (pen 0 true)) parts) where
+      room : length (report (shown b c)) ≤ length d
+      room = leb-true _ _ e
 
-      wrote : sheet d'' q ≡ sheet (put d 0 (joined parts)) (pen (length (joined parts)) true)
-      wrote = w ∙ rw untouched (inked-all d parts room)
+      wrote : sheet d'' q ≡ sheet (put d 0 (report (shown b c))) (pen (length (report (shown b c))) true)
+      unfolding report
+      wrote = w ∙ rw same (inked-all d parts room)
 
       pub told-length : Answer.Length (q .at) ≡ reported b c (length d)
-      unfolding reported report
-      told-length = ap (λ (x : Sheet). Answer.Length (x .pen .at)) wrote ∙ sym (rw (s, test ∙ ok))
+      unfolding reported
+      told-length = ap (λ (x : Sheet). Answer.Length (x .pen .at)) wrote ∙ sym (rw (s, e))
 
       pub left-written : d'' ≡ reportedInto b c d
-      unfolding reportedInto report
-      left-written = ap (λ (x : Sheet). x .bytes) wrote ∙ sym (rw s (written-room d 0 (joined parts) (omega (arith, room))))
+      unfolding reportedInto
+      left-written = ap (λ (x : Sheet). x .bytes) wrote ∙ sym (rw s (written-room d 0 (report (shown b c)) (omega (arith, room))))

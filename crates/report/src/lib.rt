@@ -1,10 +1,11 @@
-// The report of a record: measured first, and written only where it fits.
+// The report of a record: written only where it fits.
 ghost use mathlib.Core.Path.{_≡_};
+ghost use lib.Dec.{leb};
 ghost use lib.ListN.{length, take, drop};
 ghost use Rattle.draw.specs.Pen.{sheet, drawn};
 ghost use Rattle.lines.specs.Line.{linesFrom};
 ghost use Rattle.config.specs.Values.{shown};
-ghost use Rattle.report.specs.Report.{values};
+ghost use Rattle.report.specs.Report.{values, report as whole};
 ghost use Rattle.report.specs.Answer.{numberOf, reported, reportedInto};
 use config::Config;
 use draw::Pen;
@@ -92,6 +93,23 @@ fn put_all(c: Config, decode: &[u8], dst: &mut [u8], pen: Pen) -> Pen
     put_words(c, decode, dst, times)
 }
 
+// Whether the report fits: measured, by a pen without ink, only where that can't be told from the record's lengths.
+fn fits(c: Config, decode: &[u8], dst: &mut [u8]) -> bool
+    ensures { λ r. ⌜ r ≡ leb (length (whole (shown (now (decode .entry)) c))) (length (now (dst .entry))) ⌝ }
+    ensures { λ _. ⌜ now (dst .exit) ≡ now (dst .entry) ⌝ }
+{
+    if room::surely_fits(c, dst.len()) {
+        return true;
+    }
+    let measure = Pen {
+        at: 0,
+        ok: true,
+        ink: false,
+    };
+    let measured = put_all(c, decode, dst, measure);
+    measured.ok
+}
+
 // Writes the report of the record into `dst` from its start, and answers its length. A record that is not sound (17) is refused before a buffer that is too short (16); both leave `dst` untouched.
 pub fn report(c: Config, decode: &[u8], dst: &mut [u8]) -> Answer
     ensures { λ r. ⌜ r ≡ reported (now (decode .entry)) c (length (now (dst .entry))) ⌝ }
@@ -100,13 +118,7 @@ pub fn report(c: Config, decode: &[u8], dst: &mut [u8]) -> Answer
     if !sound::is_sound(c, decode.len()) {
         return Answer::Unsound;
     }
-    let measure = Pen {
-        at: 0,
-        ok: true,
-        ink: false,
-    };
-    let measured = put_all(c, decode, dst, measure);
-    if !measured.ok {
+    if !fits(c, decode, dst) {
         return Answer::Short;
     }
     let write = Pen {

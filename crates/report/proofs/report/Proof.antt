@@ -11,21 +11,22 @@ is-sound-requires c κs = search needs
 returns : tie.Need-returns
 returns c = let e = sym (c .before .is-sound .ensures) ∙ not-true _ (c .if1 .taken) in let d = c .before .before .before .before .args .dst .now in (told-unsound _ _ d e, left-unsound _ _ d e)
 
-put-all-requires : tie.Need-put-all-requires
-put-all-requires c κs = search needs
+fits-requires : tie.Need-fits-requires
+fits-requires c κs = search needs
 
 same-length : tie.Need-same-length
 same-length c = search needs
 
 returns-2 : tie.Need-returns-2
 returns-2 c =
-    let p = c .before .before .before .before in
+    let p = c .before .before .before in
     let d = p .before .before .before .before .before .before .args .dst .now in
     let s = sym (p .before .before .before .is-sound .ensures) ∙ not-false _ (p .before .before .if1 .left) in
-    (told-short _ _ d s _ _ (p .put-all .ensures) (not-true _ (c .if2 .taken)), left-short _ _ d s _ _ (p .put-all .ensures) (not-true _ (c .if2 .taken)))
+    let e = sym (p .fits2 .ensures .0) ∙ not-true _ (c .if2 .taken) in
+    (told-short _ _ d s _ (p .fits2 .ensures .1) e, left-short _ _ d s _ (p .fits2 .ensures .1) e)
 
-put-all-requires-2 : tie.Need-put-all-requires-2
-put-all-requires-2 c κs = search needs
+put-all-requires : tie.Need-put-all-requires
+put-all-requires c κs = search needs
 
 same-length-2 : tie.Need-same-length-2
 same-length-2 c = search needs
@@ -34,10 +35,11 @@ returns-3 : tie.Need-returns-3
 returns-3 c =
     let q = c .before .before in
     let n = q .before .before in
-    let p = n .before .before .before .before in
+    let p = n .before .before .before in
     let d = p .before .before .before .before .before .before .args .dst .now in
     let s = sym (p .before .before .before .is-sound .ensures) ∙ not-false _ (p .before .before .if1 .left) in
-    (told-length _ _ d s _ _ (p .put-all .ensures) (not-false _ (n .if2 .left)) _ _ (q .put-all2 .ensures), left-written _ _ d s _ _ (p .put-all .ensures) (not-false _ (n .if2 .left)) _ _ (q .put-all2 .ensures))
+    let e = sym (p .fits2 .ensures .0) ∙ not-false _ (n .if2 .left) in
+    (told-length _ _ d s _ (p .fits2 .ensures .1) e _ _ (q .put-all .ensures), left-written _ _ d s _ (p .fits2 .ensures .1) e _ _ (q .put-all .ensures))
 
 pub report-spec : {M : Type 1} → statement M
 report-spec =
@@ -45,9 +47,9 @@ report-spec =
     (tie.spec
     is-sound-requires
     returns
-    put-all-requires
+    fits-requires
     same-length
     returns-2
-    put-all-requires-2
+    put-all-requires
     same-length-2
     returns-3)
