@@ -1,23 +1,27 @@
--- `decode` meets its contract: the decoded text, piece by piece, by the laws of filling lent memory. Assumes nothing.
-use borrow.Author.Needs.{needs}
-use mathlib.Core.Path.{sym, _∙_}
-use mathlib.Core.List.{_∷_}
-use Prim.Native.Nat.{_+_, _-_, _<_, _≤_}
-use native.Mathlib.Omega.{arith}
+-- `decode` meets its contract: bytes are copied up to the first `%`, and what is decoded from there on completes them. Assumes nothing.
+use lib.ListN.{length, drop, getD}
 use borrow.Author.Tests.{leb-true, leb-false, not-true, not-false}
-use lib.ListN.{length, drop}
-use Rattle.byte.proofs.Writing.{written-short, after-short}
+use native.Mathlib.Omega.{arith}
+use Prim.Native.Nat.{ℕ, _+_, _-_, _<_, _≤_}
+use mathlib.Core.List.{List, _∷_}
+use mathlib.Core.Path.{sym, ap, _∙_}
+use borrow.Author.Needs.{needs}
+use Rattle.byte.proofs.Writing.{length-written}
 use Rattle.byte.proofs.Fill.{Filling, fill-start, fill-length, fill-room, fill-more, fill-done}
+use Rattle.byte.proofs.Writing.{written-short, after-short}
+use Rattle.byte.specs.Put.{written, after}
 use Rattle.percent.specs.Percent.{decoded}
-use Rattle.percent.proofs.Laws.{small, step, stop}
+use Rattle.percent.proofs.Runs.{plain-step, slice-from}
+use Rattle.percent.proofs.Front.{rest-after, rest-written}
+use Rattle.percent.proofs.Laws.{stop}
 use Rattle.percent.proofs.decode.Statement.{statement}
 use Rattle.percent.proofs.decode.Tie as tie
 
 abbrev Inv-loop : tie.InvT-loop
-Inv-loop src dst₀ at k₀ i₀ dst k i = (at + length (decoded src) ≤ length dst₀) × Filling dst₀ at (decoded src) (decoded (drop i src)) dst k
+Inv-loop src dst₀ at k₀ dst k = (at + length (decoded src) ≤ length dst₀) × Filling dst₀ at (decoded src) (decoded (drop k src)) dst k
 
 abbrev μ-loop : tie.MeasureT-loop
-μ-loop src dst₀ at k₀ i₀ dst k i = length src - i
+μ-loop src dst₀ at k₀ dst k = length src - k
 
 has-room-requires : tie.Need-has-room-requires Inv-loop μ-loop
 has-room-requires c κs = search needs
@@ -31,56 +35,72 @@ returns c = let a = c .before .before .before .before .args in (sym (after-short
 loop-holds : tie.Need-loop-holds Inv-loop μ-loop
 loop-holds c = (leb-true _ _ (sym (c .before .has-room .ensures) ∙ not-false _ (c .if1 .left)), fill-start _ _ _)
 
-piece-at-requires : tie.Need-piece-at-requires Inv-loop μ-loop
-piece-at-requires c κs = search needs
+shared-slice-read-b : tie.Need-shared-slice-read-b Inv-loop μ-loop
+shared-slice-read-b c = omega arith
 
--- in a turn the piece read is what comes next
-next : (c : tie.After-piece-at Inv-loop μ-loop) →
-    Filling (c .before .before .before .before .before .before .before .args .dst .now) (c .before .before .before .before .before .before .before .args .at) (decoded (c .before .before .before .before .before .before .before .args .src .now))
-    (c .piece-at .result .byte ∷ decoded (drop (c .before .before .loop .i + 1 + c .piece-at .result .skip) (c .before .before .before .before .before .before .before .args .src .now)))
-    (c .before .before .loop .dst) (c .before .before .loop .k)
-next c =
-    let l = c .before .before in
-    let s = l .before .before .before .before .before .args .src .now in
-    rw (c .piece-at .ensures) (rw (step s (l .loop .i) (c .before .loop-test .taken)) at (l .loop .inv .1))
+sub-decode-pieces : tie.Need-sub-decode-pieces Inv-loop μ-loop
+sub-decode-pieces c = omega arith
 
-skips : (c : tie.After-piece-at Inv-loop μ-loop) → c .piece-at .result .skip ≤ 2
-skips c = rw (c .piece-at .ensures) (small _ _)
+part-decode-pieces-start : tie.Need-part-decode-pieces-start Inv-loop μ-loop
+part-decode-pieces-start c = omega arith
+
+part-decode-pieces-end : tie.Need-part-decode-pieces-end Inv-loop μ-loop
+part-decode-pieces-end c = omega arith
+
+add-decode-pieces : tie.Need-add-decode-pieces Inv-loop μ-loop
+add-decode-pieces c = omega (arith, c .before .before .before .before .before .loop .inv .0, c .before .before .before .before .before .loop .inv .1 .low)
+
+decode-pieces-requires : tie.Need-decode-pieces-requires Inv-loop μ-loop
+decode-pieces-requires c κs = search needs
+
+same-length : tie.Need-same-length Inv-loop μ-loop
+same-length c =
+    let l = c .before .before .before .before .before .before .before .before in
+    ap length (c .before .before .decode-pieces .ensures .1) ∙ length-written _ _ _ ∙ fill-length _ _ _ (l .loop .inv .0) _ _ _ (l .loop .inv .1)
+
+returns-2 : tie.Need-returns-2 Inv-loop μ-loop
+returns-2 c =
+    let l = c .before .before .before .before .before .before .before .before in
+    let a = c .before .before .before .before .before .before .before .before .before .before .before .before .before .args in
+    let p = c .before .before .decode-pieces .ensures in
+    let e = slice-from (a .src .now) (l .loop .k) in (
+      p .0 ∙ ap (λ (x : List ℕ). after (l .loop .dst) (a .at + l .loop .k) (decoded x)) e ∙ rest-after _ _ _ (l .loop .inv .0) _ _ _ (l .loop .inv .1),
+      p .1 ∙ ap (λ (x : List ℕ). written (l .loop .dst) (a .at + l .loop .k) (decoded x)) e ∙ rest-written _ _ _ (l .loop .inv .0) _ _ _ (l .loop .inv .1),
+    )
+
+-- in a turn the byte that was read is what comes next
+next : (c : tie.Else2 Inv-loop μ-loop) →
+    Filling (c .before .before .before .before .before .before .before .before .args .dst .now) (c .before .before .before .before .before .before .before .before .args .at) (decoded (c .before .before .before .before .before .before .before .before .args .src .now))
+    (getD (c .before .before .before .before .before .before .before .before .args .src .now) (c .before .before .before .loop .k) 0 ∷ decoded (drop (c .before .before .before .loop .k + 1) (c .before .before .before .before .before .before .before .before .args .src .now)))
+    (c .before .before .before .loop .dst) (c .before .before .before .loop .k)
+next c = rw (plain-step (c .before .before .before .before .before .before .before .before .args .src .now) (c .before .before .before .loop .k) (c .before .before .loop-test .taken) (c .if2 .left)) at (c .before .before .before .loop .inv .1)
 
 add-dst : tie.Need-add-dst Inv-loop μ-loop
-add-dst c = omega (arith, c .before .before .loop .inv .0, c .before .before .loop .inv .1 .low)
+add-dst c = omega (arith, c .before .before .before .loop .inv .0, c .before .before .before .loop .inv .1 .low)
 
 slice-write-dst : tie.Need-slice-write-dst Inv-loop μ-loop
-slice-write-dst c = fill-room _ _ _ (c .before .before .loop .inv .0) _ _ _ _ (next c)
+slice-write-dst c = fill-room _ _ _ (c .before .before .before .loop .inv .0) _ _ _ _ (next c)
 
 add-k : tie.Need-add-k Inv-loop μ-loop
-add-k c = omega (arith, c .before .before .loop .inv .0, c .before .before .loop .inv .1 .low)
-
-add-i : tie.Need-add-i Inv-loop μ-loop
-add-i c = omega arith
-
-add-i-2 : tie.Need-add-i-2 Inv-loop μ-loop
-add-i-2 c = omega (arith, skips (c .before))
+add-k c = omega (arith, c .before .before .before .loop .inv .0, c .before .before .before .loop .inv .1 .low)
 
 loop-less : tie.Need-loop-less Inv-loop μ-loop
 loop-less c = omega arith
 
 loop-again : tie.Need-loop-again Inv-loop μ-loop
-loop-again c =
-    let t = c .before in
-    (t .before .before .loop .inv .0, fill-more _ _ _ (t .before .before .loop .inv .0) _ _ _ _ (next t))
+loop-again c = (c .before .before .before .loop .inv .0, fill-more _ _ _ (c .before .before .before .loop .inv .0) _ _ _ _ (next c))
 
 add-result : tie.Need-add-result Inv-loop μ-loop
 add-result c = omega (arith, c .before .loop .inv .0, c .before .loop .inv .1 .low)
 
-same-length : tie.Need-same-length Inv-loop μ-loop
-same-length c = fill-length _ _ _ (c .before .loop .inv .0) _ _ _ (c .before .loop .inv .1)
+same-length-2 : tie.Need-same-length-2 Inv-loop μ-loop
+same-length-2 c = fill-length _ _ _ (c .before .loop .inv .0) _ _ _ (c .before .loop .inv .1)
 
-returns-2 : tie.Need-returns-2 Inv-loop μ-loop
-returns-2 c =
+returns-3 : tie.Need-returns-3 Inv-loop μ-loop
+returns-3 c =
     let l = c .before in
-    let s = l .before .before .before .before .before .args .src .now in
-    let f = fill-done _ _ _ (l .loop .inv .0) _ _ (rw (stop s (l .loop .i) (c .loop-test .left)) at (l .loop .inv .1)) in
+    let s = c .before .before .before .before .before .before .args .src .now in
+    let f = fill-done _ _ _ (l .loop .inv .0) _ _ (rw (stop s (l .loop .k) (c .loop-test .left)) at (l .loop .inv .1)) in
     (f .answer, f .leaves)
 
 pub decode-spec : {M : Type 1} → statement M
@@ -92,14 +112,19 @@ decode-spec =
     has-room-requires
     returns
     loop-holds
-    piece-at-requires
+    shared-slice-read-b
+    sub-decode-pieces
+    part-decode-pieces-start
+    part-decode-pieces-end
+    add-decode-pieces
+    decode-pieces-requires
+    same-length
+    returns-2
     add-dst
     slice-write-dst
     add-k
-    add-i
-    add-i-2
     loop-less
     loop-again
     add-result
-    same-length
-    returns-2)
+    same-length-2
+    returns-3)
