@@ -12,7 +12,7 @@ use lib.Seq.{drop-drop}
 use borrow.Author.Tests.{lt-ltb, le-ltb, eq-eqb, ne-eqb, ltb-true}
 use Rattle.byte.specs.Ascii.{bytes}
 use Rattle.byte.specs.Byte.{pick, partOf}
-use Rattle.byte.proofs.Parts.{part-most}
+use Rattle.byte.proofs.Parts.{part-most, part-short}
 use Rattle.split.specs.Split.{firstAt}
 use Rattle.split.proofs.Split.{first-most}
 use Rattle.utf8.specs.Utf8.{wellFormed}
@@ -26,7 +26,7 @@ use Rattle.url.specs.declared.UrlStep.the-variants.{Given, Ended}
 use Rattle.url.specs.declared.HostPlace.{HostPlace}
 use Rattle.url.specs.Uri.{has, beyond, firstOf, hostFits, closes, endsHosts}
 use Rattle.url.specs.Step.{url, found, give, skipped, hostChecked, keyKind, valueChecked, valueStep, keyStep, parameterStep, paramsStep, databaseStep, pathStep, chunkEnd, behindChunk, fixedPort, portStep, place, faulty, closing, hostPlace, placedStep, chunkStep, hostStep, passwordStep, userEnd, credentialsStep, stageStep, stepAt, valueIn}
-use Rattle.url.proofs.Places.{front-byte, part-front, part-shift, of-here, of-on, of-end}
+use Rattle.url.proofs.Places.{front-byte, part-front, part-shift, part-take, part-start, of-here, of-on, of-end}
 
 or-true : (t : Bool) → t || true ≡ true
 or-true true = refl
@@ -215,12 +215,22 @@ module _ (at : ℕ) (s : List ℕ) where
         user-end : k ≡ userEnd (drop at s)
         user-end = f ∙ zero-add _ ∙ ap (firstAt 58) (p ∙ ap (λ (n : ℕ). partOf at n s) e ∙ part-front at s (firstAt 64 (drop at s)))
 
+        user-fits : k ≤ firstAt 64 (drop at s)
+        user-fits = omega (arith, f, zero-add (firstAt 58 c), first-most 58 c, ap length p, part-short at end s)
+
+        -- the user is a part of the credentials
+        user-part : partOf 0 k c ≡ take k (drop at s)
+        user-part =
+            ap (partOf 0 k) (p ∙ ap (λ (n : ℕ). partOf at n s) e ∙ part-front at s (firstAt 64 (drop at s)))
+            ∙ part-take 0 k (firstAt 64 (drop at s)) (drop at s) user-fits
+            ∙ part-start k (drop at s)
+
         there : has 64 (drop at s) ≡ true
         there = let z : firstAt 64 (drop at s) < length (drop at s) = omega (arith, length-drop at s) in lt-ltb _ _ z
 
-        module _ (v : List ℕ) (q : v ≡ partOf at (at + k) s) (judged : Checked) (j : judged ≡ checked v) where
+        module _ (judged : Checked) (j : judged ≡ checked (partOf 0 k c)) where
           judged-is : judged ≡ checked (take (userEnd (drop at s)) (drop at s))
-          judged-is = j ∙ ap checked (q ∙ part-front at s k ∙ ap (λ (n : ℕ). take n (drop at s)) user-end)
+          judged-is = j ∙ ap checked (user-part ∙ ap (λ (n : ℕ). take n (drop at s)) user-end)
 
           pub user-first : at + k < end → give 1 at (at + k) judged (url Password (at + k + 1)) ≡ credentialsStep at (drop at s)
           unfolding credentialsStep

@@ -21,6 +21,7 @@ use Rattle.names.specs.Find.{keyNumber, numberIn, among}
 use Rattle.names.proofs.Among.{Found, number-found}
 use Rattle.names.proofs.Examples.{no-empty}
 use Rattle.utf8.specs.Utf8.{wellFormed, wellFrom, charAt, charOf, longer, two, three, four, least, greatest}
+use Rattle.percent.specs.Percent.{pieceOf, pieceAt, decodedFrom, decoded}
 use Rattle.setting.specs.Setting.{Setting, keyed, oneHost, kindOf}
 use Rattle.url.specs.Step.{paramKind, keyKind}
 
@@ -50,6 +51,17 @@ module _ (k : List ℕ) (h : keyNumber k ≡ 0 → ⊥) where
       let f = key-found k h in
       let l : keyNumber k - 1 < 19 = omega (arith, f .within, f .from) in
       subst (λ (w : List ℕ). wellFormed w ≡ true) (f .is) (holds-at 19 plain-key refl (keyNumber k - 1) l)
+
+-- and has no `%` in it, so that it is decoded already
+decoded-key : ℕ → Bool
+decoded-key i = same (decoded (getD keyNames i [])) (getD keyNames i [])
+
+pub known-decoded : (k : List ℕ) → (keyNumber k ≡ 0 → ⊥) → decoded k ≡ k
+unfolding decoded-key decoded decodedFrom pieceAt pieceOf same
+known-decoded k h =
+    let f = key-found k h in
+    let l : keyNumber k - 1 < 19 = omega (arith, f .within, f .from) in
+    subst (λ (w : List ℕ). decoded w ≡ w) (f .is) (same-true _ _ (holds-at 19 decoded-key refl (keyNumber k - 1) l))
 
 -- the keys that the reading itself gives
 pub user-one : keyNumber (bytes "user") ≡ 1
@@ -115,6 +127,13 @@ module _ (k : List ℕ) where
       by : (t : Bool) → eqb (keyNumber k) 0 ≡ t → keyNumber k ≡ 0
       by true e = eqb-true (keyNumber k) 0 e
       by false e = absurd (omega (arith, known-short k (eqb-false (keyNumber k) 0 e)))
+
+  -- the kind of a key that is known as it stands
+  pub raw-host : keyNumber k ≡ 8 → paramKind (decoded k) ≡ 20
+  raw-host e = ap paramKind (known-decoded k (λ (z : keyNumber k ≡ 0). absurd (omega arith))) ∙ kind-host e
+
+  pub raw-other : (keyNumber k ≡ 8 → ⊥) → (keyNumber k ≡ 0 → ⊥) → paramKind (decoded k) ≡ keyNumber k
+  raw-other h z = ap paramKind (known-decoded k z) ∙ kind-other h
 
   -- a key looked up from twenty bytes: it was written there, or it is too long to be known
   module _ (name : List ℕ) (w : name ≡ written (replicate 20 0) 0 k) (n : ℕ) (a : n ≡ after (replicate 20 0) 0 k) where

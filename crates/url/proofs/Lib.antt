@@ -1,6 +1,8 @@
 pub mod Places
 pub mod Keys
 pub mod Branches
+pub mod Judged
+pub mod PlainHost
 pub mod Chunks
 pub mod Parameters
 pub mod Reading

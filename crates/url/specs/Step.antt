@@ -3,7 +3,7 @@
 use Prim.Native.Nat.{ℕ, _+_}
 use mathlib.Core.Bool.{Bool, true, false, _&&_, _||_}
 use mathlib.Core.List.{List}
-use lib.Dec.{eqb, ltb}
+use lib.Dec.{eqb, ltb, leb}
 use lib.ListN.{length, take, drop, getD}
 use Rattle.byte.specs.Ascii.{bytes}
 use Rattle.byte.specs.Byte.{pick, partOf}
@@ -83,6 +83,14 @@ endsChunk a = eqb a 44 || endsHosts a
 
 abbrev pub chunkEnd : List ℕ → ℕ
 chunkEnd t = firstOf endsChunk t
+
+-- outside brackets a host ends before `:` or with its chunk
+unfoldable pub endsHost : ℕ → Bool
+endsHost a = eqb a 58 || endsChunk a
+
+-- and its plain front, which needs no decoding and is UTF-8, there too, or before `%` or what is not ASCII; above `?` only that is left
+unfoldable pub endsPlainHost : ℕ → Bool
+endsPlainHost a = pick (ltb 63 a) (leb 128 a) (eqb a 37 || endsHost a)
 
 -- what is read behind a chunk: the next one behind `,`, or the path
 unfoldable pub behindChunk : ℕ → List ℕ → Url

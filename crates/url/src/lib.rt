@@ -1,11 +1,12 @@
 // A URI behind its prefix, read a setting a step: pure scans of the lent text from a place on, which write nothing.
 ghost use mathlib.Core.Path.{_≡_};
 ghost use Prim.Native.Nat.{_+_};
+ghost use lib.Dec.{eqb};
 ghost use lib.ListN.{drop};
 ghost use Rattle.byte.specs.Put.{written, after};
 ghost use Rattle.percent.specs.Percent.{decoded};
 ghost use Rattle.url.specs.Uri.{firstOf, endsHosts, closes};
-ghost use Rattle.url.specs.Step.{endsChunk, url, give, skipped, credentialsStep, passwordStep, hostStep, chunkStep, portStep, pathStep, databaseStep, paramsStep, parameterStep, valueStep, hostPlace, hostChecked, valueChecked, paramKind, keyKind, behindChunk, stepAt, valueIn};
+ghost use Rattle.url.specs.Step.{endsChunk, endsHost, endsPlainHost, url, give, skipped, credentialsStep, passwordStep, hostStep, chunkStep, portStep, pathStep, databaseStep, paramsStep, parameterStep, valueStep, hostPlace, hostChecked, paramKind, keyKind, behindChunk, stepAt, valueIn};
 
 // What stands at the place that is read next.
 pub enum Stage {
@@ -141,8 +142,9 @@ fn parse_credentials(s: &[u8], at: usize) -> UrlStep
     if s.len() <= end {
         return parse_host(s, at);
     }
-    let colon = at + split::find(byte::part(s, at, end), 0, b':');
-    let judged = percent::check(byte::part(s, at, colon));
+    let user = percent::check_until(byte::part(s, at, end), 0, b':');
+    let judged = user.judged;
+    let colon = at + user.end;
     if colon < end {
         let password = colon + 1;
         let next = Url {
@@ -163,8 +165,9 @@ fn parse_credentials(s: &[u8], at: usize) -> UrlStep
 fn parse_password(s: &[u8], at: usize) -> UrlStep
     ensures { λ r. ⌜ r ≡ passwordStep at (drop at (now (s .entry))) ⌝ }
 {
-    let end = split::find(s, at, b'@');
-    let len = percent::decoded_len(byte::part(s, at, end));
+    let password = percent::check_until(s, at, b'@');
+    let end = password.end;
+    let judged = password.judged;
     let next = Url {
         stage: Stage::Host,
         at: skip(s, end),
@@ -173,7 +176,7 @@ fn parse_password(s: &[u8], at: usize) -> UrlStep
         kind: PASSWORD,
         from: at,
         to: end,
-        len,
+        len: judged.len,
         fixed: false,
         next,
     })
@@ -280,8 +283,81 @@ fn host_place(c: &[u8]) -> HostPlace
     }
 }
 
-// A chunk's host; a bracket fault is told before anything is decoded.
+// Whether a byte ends a host outside brackets.
+fn ends_host(b: u8) -> bool
+    ensures { λ r. ⌜ r ≡ endsHost b ⌝ }
+{
+    if b == b':' {
+        return true;
+    }
+    ends_chunk(b)
+}
+
+// Whether a host's plain front ends: with the host, at a `%`, or where ASCII does.
+fn ends_plain_host(b: u8) -> bool
+    ensures { λ r. ⌜ r ≡ endsPlainHost b ⌝ }
+{
+    if 63 < b {
+        return 128 <= b;
+    }
+    if b == b'%' {
+        return true;
+    }
+    ends_host(b)
+}
+
+// Where the plain front of a host ends.
+fn plain_host(s: &[u8], at: usize) -> usize
+    ensures { λ r. ⌜ r ≡ at + firstOf endsPlainHost (drop at (now (s .entry))) ⌝ }
+{
+    let mut i = at;
+    while i < s.len() {
+        if ends_plain_host(s[i]) {
+            return i;
+        }
+        i += 1;
+    }
+    i
+}
+
+// Whether a host ends at a place.
+fn host_ends_at(s: &[u8], at: usize) -> bool
+    ensures { λ r. ⌜ r ≡ eqb (firstOf endsHost (drop at (now (s .entry)))) 0 ⌝ }
+{
+    if s.len() <= at {
+        return true;
+    }
+    ends_host(s[at])
+}
+
+// A chunk's host, read once where it is plain.
 fn parse_chunk(s: &[u8], at: usize) -> UrlStep
+    ensures { λ r. ⌜ r ≡ chunkStep at (drop at (now (s .entry))) ⌝ }
+{
+    if byte::at(s, at) == b'[' {
+        return parse_placed(s, at);
+    }
+    let to = plain_host(s, at);
+    if host_ends_at(s, to) {
+        let len = to - at;
+        let next = Url {
+            stage: Stage::Port,
+            at: to,
+        };
+        return UrlStep::Given(Found {
+            kind: ONE_HOST,
+            from: at,
+            to,
+            len,
+            fixed: false,
+            next,
+        });
+    }
+    parse_placed(s, at)
+}
+
+// A chunk's host by its place; a bracket fault is told before anything is decoded.
+fn parse_placed(s: &[u8], at: usize) -> UrlStep
     ensures { λ r. ⌜ r ≡ chunkStep at (drop at (now (s .entry))) ⌝ }
 {
     let end = chunk_end(s, at);
@@ -364,11 +440,12 @@ fn parse_path(s: &[u8], at: usize) -> UrlStep
 fn parse_database(s: &[u8], at: usize) -> UrlStep
     ensures { λ r. ⌜ r ≡ databaseStep at (drop at (now (s .entry))) ⌝ }
 {
-    let end = split::find(s, at, b'?');
+    let dbname = percent::check_until(s, at, b'?');
+    let end = dbname.end;
     if end <= at {
         return parse_params(s, at);
     }
-    let judged = percent::check(byte::part(s, at, end));
+    let judged = dbname.judged;
     let next = Url {
         stage: Stage::Params,
         at: end,
@@ -406,8 +483,12 @@ fn parse_parameter(s: &[u8], at: usize) -> UrlStep
 fn parse_value(s: &[u8], kind: usize, at: usize) -> UrlStep
     ensures { λ r. ⌜ r ≡ valueStep kind at (drop at (now (s .entry))) ⌝ }
 {
-    let end = split::find(s, at, b'&');
-    let judged = value_param(kind, byte::part(s, at, end));
+    if kind == ONE_HOST {
+        return parse_one_host(s, at);
+    }
+    let value = percent::check_until(s, at, b'&');
+    let end = value.end;
+    let judged = value.judged;
     let next = Url {
         stage: Stage::Parameter,
         at: skip(s, end),
@@ -415,14 +496,17 @@ fn parse_value(s: &[u8], kind: usize, at: usize) -> UrlStep
     decode(kind, at, end, judged, next)
 }
 
-// One host may be a Unix path; any other value must be UTF-8.
-fn value_param(kind: usize, v: &[u8]) -> percent::Checked
-    ensures { λ r. ⌜ r ≡ valueChecked kind (now (v .entry)) ⌝ }
+// One host, which may be a Unix path; any other value must be UTF-8.
+fn parse_one_host(s: &[u8], at: usize) -> UrlStep
+    ensures { λ r. ⌜ r ≡ valueStep 20 at (drop at (now (s .entry))) ⌝ }
 {
-    if kind == ONE_HOST {
-        return host_param(v);
-    }
-    percent::check(v)
+    let end = split::find(s, at, b'&');
+    let judged = host_param(byte::part(s, at, end));
+    let next = Url {
+        stage: Stage::Parameter,
+        at: skip(s, end),
+    };
+    decode(ONE_HOST, at, end, judged, next)
 }
 
 // The kind that a key gives, or 21 where it is not UTF-8 once decoded. The known keys are, so that they are read once.
@@ -437,8 +521,22 @@ fn parse_key(key: &[u8]) -> usize
     if c.utf8 { 0 } else { NO_KEY }
 }
 
-// The kind of a setting with this key: no key is longer than 20 bytes, and one that is too long to be decoded here has no number.
+// The kind of a setting with this key. A known key has no `%`, so that it is looked up as it stands first.
 fn param_kind(key: &[u8]) -> usize
+    ensures { λ r. ⌜ r ≡ paramKind (decoded (now (key .entry))) ⌝ }
+{
+    let known = names::key_number(key);
+    if known == HOST_KEY {
+        return ONE_HOST;
+    }
+    if known != 0 {
+        return known;
+    }
+    decoded_kind(key)
+}
+
+// The same of the key decoded: no key is longer than 20 bytes, and one that is too long to be decoded here has no number.
+fn decoded_kind(key: &[u8]) -> usize
     ensures { λ r. ⌜ r ≡ paramKind (decoded (now (key .entry))) ⌝ }
 {
     let mut name = [0u8; 20];

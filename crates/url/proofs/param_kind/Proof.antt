@@ -1,52 +1,28 @@
--- `url::param_kind` meets its contract: twenty bytes are enough to look a key up.
+-- `url::param_kind` meets its contract: a known key is decoded already, and any other is looked up decoded.
 -- Assumes nothing.
-use mathlib.Core.Path.{_≡_, sym, ap, _∙_}
-use Rattle.names.specs.Find.{keyNumber}
-use Rattle.percent.specs.Percent.{decoded}
-use Rattle.url.proofs.Keys.{looked-up, kind-host, kind-other}
+use mathlib.Core.Path.{sym, _∙_}
+use Rattle.url.proofs.Keys.{raw-host, raw-other}
 use borrow.Author.Needs.{needs}
 use Rattle.url.proofs.param_kind.Statement.{statement}
 use Rattle.url.proofs.param_kind.Tie as tie
-
-slice-aggregate-decode : tie.Need-slice-aggregate-decode
-slice-aggregate-decode c = search needs
-
-decode-requires : tie.Need-decode-requires
-decode-requires c κs = search needs
-
-slice-aggregate-part : tie.Need-slice-aggregate-part
-slice-aggregate-part c = search needs
-
-part-requires : tie.Need-part-requires
-part-requires c κs = search needs
 
 key-number-requires : tie.Need-key-number-requires
 key-number-requires c κs = search needs
 
 returns : tie.Need-returns
-returns c =
-    let p = c .before .before in
-    let w = p .before .before .before in
-    let k = decoded (w .before .before .before .args .key .now) in
-    let n : c .before .key-number .result ≡ keyNumber k = c .before .key-number .ensures ∙ ap keyNumber (p .part .ensures) ∙ looked-up k _ (w .decode .ensures .1) _ (w .decode .ensures .0) in
-    sym (kind-host k (sym n ∙ c .if1 .taken))
+returns c = sym (raw-host _ (sym (c .before .key-number .ensures) ∙ c .if1 .taken))
 
 returns-2 : tie.Need-returns-2
 returns-2 c =
-    let p = c .before .before in
-    let w = p .before .before .before in
-    let k = decoded (w .before .before .before .args .key .now) in
-    let n : c .before .key-number .result ≡ keyNumber k = c .before .key-number .ensures ∙ ap keyNumber (p .part .ensures) ∙ looked-up k _ (w .decode .ensures .1) _ (w .decode .ensures .0) in
-    n ∙ sym (kind-other k (λ e. c .if1 .left (n ∙ e)))
+    let e = c .before .before .key-number .ensures in
+    e ∙ sym (raw-other _ (λ z. c .before .if1 .left (e ∙ z)) (λ z. c .if2 .taken (e ∙ z)))
+
+decoded-kind-requires : tie.Need-decoded-kind-requires
+decoded-kind-requires c κs = search needs
+
+returns-3 : tie.Need-returns-3
+returns-3 c = c .decoded-kind .ensures
 
 pub param-kind-spec : {M : Type 1} → statement M
 param-kind-spec =
-    tie.close
-    (tie.spec
-    slice-aggregate-decode
-    decode-requires
-    slice-aggregate-part
-    part-requires
-    key-number-requires
-    returns
-    returns-2)
+    tie.close (tie.spec key-number-requires returns returns-2 decoded-kind-requires returns-3)

@@ -1,19 +1,24 @@
--- `url::parse_value` meets its contract: what stands up to `&`.
+-- `url::parse_value` meets its contract: what stands up to `&`, one host apart.
 -- Assumes nothing.
-use mathlib.Core.Path.{_∙_}
-use Rattle.url.proofs.Branches.{value-given}
+use mathlib.Core.Path.{sym, ap, _∙_}
+use Prim.Native.Nat.{ℕ}
+use lib.ListN.{drop}
+use Rattle.url.specs.Step.{valueStep}
+use Rattle.url.proofs.Judged.{value-judged}
 use borrow.Author.Needs.{needs}
 use Rattle.url.proofs.parse_value.Statement.{statement}
 use Rattle.url.proofs.parse_value.Tie as tie
 
-find-requires : tie.Need-find-requires
-find-requires c κs = search needs
+parse-one-host-requires : tie.Need-parse-one-host-requires
+parse-one-host-requires c κs = search needs
 
-part-requires : tie.Need-part-requires
-part-requires c κs = search needs
+returns : tie.Need-returns
+returns c =
+    let a = c .before .before .before .args in
+    c .parse-one-host .ensures ∙ ap (λ (k : ℕ). valueStep k (a .at) (drop (a .at) (a .s .now))) (sym (c .before .if1 .taken))
 
-value-param-requires : tie.Need-value-param-requires
-value-param-requires c κs = search needs
+check-until-requires : tie.Need-check-until-requires
+check-until-requires c κs = search needs
 
 skip-requires : tie.Need-skip-requires
 skip-requires c κs = search needs
@@ -21,20 +26,18 @@ skip-requires c κs = search needs
 decode-requires : tie.Need-decode-requires
 decode-requires c κs = search needs
 
-returns : tie.Need-returns
-returns c =
-    let p = c .before .before .before in
-    let a = p .before .before .before .args in
-    c .decode .ensures
-    ∙ value-given (a .at) (a .s .now) _ (p .before .find .ensures) (a .kind) _ (p .part .ensures) _ (c .before .before .value-param .ensures) _ (c .before .skip .ensures)
+returns-2 : tie.Need-returns-2
+returns-2 c =
+    let a = c .before .before .before .before .before .before .args in
+    c .decode .ensures ∙ value-judged (a .at) (a .s .now) _ (c .before .before .before .check-until .ensures) (a .kind) (c .before .before .before .before .if1 .left) _ (c .before .skip .ensures)
 
 pub parse-value-spec : {M : Type 1} → statement M
 parse-value-spec =
     tie.close
     (tie.spec
-    find-requires
-    part-requires
-    value-param-requires
+    parse-one-host-requires
+    returns
+    check-until-requires
     skip-requires
     decode-requires
-    returns)
+    returns-2)
