@@ -260,15 +260,14 @@ fn last_at_sign(s: &[u8], at: usize) -> usize {
 
 // \"If an `@` stands anywhere"""),
         ("url", "    let end = split::find(s, at, b'@');\n    if s.len() <= end {\n", "    let end = last_at_sign(s, at);\n    if s.len() <= end {\n"),
-        ("url", "    let end = split::find(s, at, b'@');\n    let len =", "    let end = last_at_sign(s, at);\n    let len ="),
+        ("url", "    let end = password.end;\n", "    let end = last_at_sign(s, at);\n"),
     ]),
     ("password_of_credentials_must_be_utf8", [
-        ("url", "    let len = percent::decoded_len(byte::part(s, at, end));\n", """\
-    let judged = percent::check(byte::part(s, at, end));
+        ("url", "    let judged = password.judged;\n", """\
+    let judged = password.judged;
     if !judged.utf8 {
         return UrlStep::Ended(NOT_UTF8);
     }
-    let len = judged.len;
 """),
     ]),
     ("empty_dbname_set", [
