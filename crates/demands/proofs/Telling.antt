@@ -9,6 +9,7 @@ use borrow.Author.Tests.{ltb-true, ltb-false, leb-true}
 use lib.Dec.{ltb, leb}
 use lib.ListN.{length}
 use Rattle.byte.specs.Byte.{pick}
+use Rattle.byte.specs.Put.{written}
 use Rattle.utf8.specs.Utf8.{wellFormed}
 use Rattle.config.specs.declared.Config.{Config}
 use Rattle.config.specs.Values.{Values, shown}
@@ -25,7 +26,7 @@ use Rattle.demands.specs.Blind.{Readable, Alike}
 use Rattle.demands.specs.Telling.{Run, ran, reportIn, reportOf, Reported, SameReport, Telling, DemandThree}
 use Rattle.demands.proofs.Shows.{read-sound}
 use Rattle.demands.proofs.Blind.{blind}
-use Rattle.demands.proofs.Reports.{same-report, same-answer}
+use Rattle.demands.proofs.Reports.{same-report, same-answer, writes}
 use Rattle.demands.proofs.InRange.{read-ranged}
 
 -- an accepted text is UTF-8 within the limits, and its buffer long enough
@@ -84,7 +85,7 @@ module _ (s d p t e q : List ℕ) where
       ((λ z. k .0 (sym x ∙ z ∙ y)), (λ z. x ∙ k .1 z ∙ sym y))
 
   module _ (r : Readable s d) (k : Readable t e) (a : Alike (reading s) (reading t)) (l : length p ≡ length q) where
-    one-report : SameReport (ran s d p) (ran t e q)
+    one-report : SameReport p q (ran s d p) (ran t e q)
     one-report =
         record {
           answer =
@@ -94,6 +95,8 @@ module _ (s d p t e q : List ℕ) where
               ∙ ap (λ (n : ℕ). pick (leb (length (report (shows s d))) n) (report (shows s d)) []) l
               ∙ ap (λ (x : List ℕ). pick (leb (length x) (length q)) x []) (same-report s t d e r k a)
               ∙ sym (written-is (left t e) (answer t (length e) .config) q (read-sound t e));
+          buffer =
+              λ o. writes s d p ∙ ap (λ (x : List ℕ). written x 0 (report (shows s d))) o ∙ ap (written q 0) (same-report s t d e r k a) ∙ sym (writes t e q);
         }
 
   -- the whole demand

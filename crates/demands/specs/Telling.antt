@@ -49,10 +49,11 @@ pub record Reported (r : Run) : Type 0 where
   pub accepted : r .answer .number ≡ 0
   pub room : numberOf (r .report) ≡ 0
 
--- "so is the report": what the function answers, and the bytes that it wrote
-pub record SameReport (a b : Run) : Type 0 where
+-- "so is the report": what the function answers, the bytes that it wrote, and every byte of report buffers p and q that held the same before
+pub record SameReport (p q : List ℕ) (a b : Run) : Type 0 where
   pub answer : a .report ≡ b .report
   pub bytes : reportOf a ≡ reportOf b
+  pub buffer : p ≡ q → a .buffer ≡ b .buffer
 
 -- "equal reports exactly when every setting shown is equal, the password only in being set or not"
 abbrev pub Telling : Run → Run → Type 0
@@ -63,6 +64,6 @@ pub record DemandThree (s d p t e q : List ℕ) (a b : Run) : Type 0 where
   -- "both are accepted or both refused with one number, count and key; every setting shown but the password is the same"
   pub blind : Readable s d → Readable t e → Alike (reading s) (reading t) → SameButPassword (a .answer) (a .decode) (b .answer) (b .decode)
   -- "and, into report buffers of one length, so is the report"
-  pub report : Readable s d → Readable t e → Alike (reading s) (reading t) → length p ≡ length q → SameReport a b
+  pub report : Readable s d → Readable t e → Alike (reading s) (reading t) → length p ≡ length q → SameReport p q a b
   -- "And two accepted texts with room for their reports"
   pub telling : Reported a → Reported b → Telling a b
