@@ -5,7 +5,7 @@ use mathlib.Core.Path.{_≡_, refl, sym, ap, _∙_}
 use mathlib.Core.Bool.{Bool, true, false}
 use mathlib.Core.List.{List, []}
 use native.Mathlib.Omega.{arith}
-use borrow.Author.Tests.{ltb-true, ltb-false, leb-true}
+use borrow.Author.Tests.{ltb-true, ltb-false, leb-true, le-leb}
 use lib.Dec.{ltb, leb}
 use lib.ListN.{length}
 use Rattle.byte.specs.Byte.{pick}
@@ -16,7 +16,7 @@ use Rattle.config.specs.Values.{Values, shown}
 use Rattle.config.specs.Sound.{sound}
 use Rattle.report.specs.declared.Answer.{Answer as Told}
 use Rattle.report.specs.Report.{report}
-use Rattle.report.specs.Answer.{numberOf, reported, reportedInto}
+use Rattle.report.specs.Answer.{reported, reportedInto}
 use Rattle.report.proofs.Exactly.{told-length, stands-in-front}
 use Rattle.telling.proofs.Told.{telling}
 use Rattle.reader.specs.declared.Answer.{Answer}
@@ -58,26 +58,16 @@ module _ (b : List ℕ) (c : Config) (p : List ℕ) (h : sound (length b) c ≡ 
   written-is : reportIn (reported b c (length p)) (reportedInto b c p) ≡ pick (leb (length whole) (length p)) whole []
   written-is = reads (leb (length whole) (length p)) refl
 
-  fits : numberOf (reported b c (length p)) ≡ 0 → leb (length whole) (length p) ≡ true
-  unfolding reported
-  fits z = by (leb (length whole) (length p)) (rw h at z)
-    where
-      by : (t : Bool) → numberOf (pick t (Told.Length (length whole)) Told.Short) ≡ 0 → t ≡ true
-      by true e = refl
-      by false e = absurd (omega (arith, e))
-
 -- the report of an accepted text with room
 abbrev shows : List ℕ → List ℕ → Values
 shows s d = shown (left s d) (answer s (length d) .config)
 
-report-is : (s d p : List ℕ) → Reported (ran s d p) → reportOf (ran s d p) ≡ report (shows s d)
-report-is s d p h =
-    written-is (left s d) (answer s (length d) .config) p (read-sound s d)
-    ∙ ap (λ (t : Bool). pick t (report (shows s d)) []) (fits (left s d) (answer s (length d) .config) p (read-sound s d) (h .room))
+report-is : (s d p : List ℕ) → Reported p (ran s d p) → reportOf (ran s d p) ≡ report (shows s d)
+report-is s d p h = reads (left s d) (answer s (length d) .config) p (read-sound s d) true (le-leb _ _ (h .room))
 
 module _ (s d p t e q : List ℕ) where
   -- theorem 4
-  pub telling-texts : Reported (ran s d p) → Reported (ran t e q) → Telling (ran s d p) (ran t e q)
+  pub telling-texts : Reported p (ran s d p) → Reported q (ran t e q) → Telling (ran s d p) (ran t e q)
   telling-texts g h =
       let x : reportOf (ran s d p) ≡ report (shows s d) = report-is s d p g in
       let y : reportOf (ran t e q) ≡ report (shows t e) = report-is t e q h in

@@ -1,6 +1,6 @@
 -- Demand 3 over what the two public functions hand back for two texts: answers, and what stands in the memory that was lent.
 -- Assumes nothing.
-use Prim.Native.Nat.{ℕ}
+use Prim.Native.Nat.{ℕ, _≤_}
 use mathlib.Core.Path.{_≡_}
 use mathlib.Core.List.{List, []}
 use mathlib.Core.Logic.{_↔_}
@@ -11,7 +11,8 @@ use Rattle.reader.specs.declared.Answer as Read
 use Rattle.reader.specs.Reader.{reading, answer, left}
 use Rattle.report.specs.declared.Answer as Report
 use Rattle.report.specs.declared.Answer.the-variants.{Length, Short, Unsound}
-use Rattle.report.specs.Answer.{numberOf, reported, reportedInto}
+use Rattle.report.specs.Report.{report}
+use Rattle.report.specs.Answer.{reported, reportedInto}
 use Rattle.demands.specs.Blind.{Readable, Alike, SameButPassword}
 
 -- one text read and reported: the reader's answer and the decode buffer behind it, the report's answer and the report buffer behind it
@@ -44,10 +45,10 @@ reportOf r = reportIn (r .report) (r .buffer)
 abbrev pub shownBy : Run → Values
 shownBy r = shown (r .decode) (r .answer .config)
 
--- an "accepted" text "with room for" its report
-pub record Reported (r : Run) : Type 0 where
+-- an "accepted" text "with room for" its report in a buffer p: how long 01 makes the report, not what the function says of it
+pub record Reported (p : List ℕ) (r : Run) : Type 0 where
   pub accepted : r .answer .number ≡ 0
-  pub room : numberOf (r .report) ≡ 0
+  pub room : length (report (shownBy r)) ≤ length p
 
 -- "so is the report": what the function answers, the bytes that it wrote, and every byte of report buffers p and q that held the same before
 pub record SameReport (p q : List ℕ) (a b : Run) : Type 0 where
@@ -66,4 +67,4 @@ pub record DemandThree (s d p t e q : List ℕ) (a b : Run) : Type 0 where
   -- "and, into report buffers of one length, so is the report"
   pub report : Readable s d → Readable t e → Alike (reading s) (reading t) → length p ≡ length q → SameReport p q a b
   -- "And two accepted texts with room for their reports"
-  pub telling : Reported a → Reported b → Telling a b
+  pub telling : Reported p a → Reported q b → Telling a b
