@@ -1,11 +1,11 @@
 -- The entry for C meets demand 3, too: it hands back and leaves no more than what the report is.
 -- Assumes nothing.
-use Prim.Native.Nat.{ℕ, _+_, _≤_, _<_}
+use Prim.Native.Nat.{ℕ, _+_, _≤_}
 use mathlib.Core.Path.{_≡_, refl, sym, ap, _∙_}
 use mathlib.Core.Bool.{Bool, true, false}
 use mathlib.Core.List.{List, []}
 use native.Mathlib.Omega.{arith}
-use borrow.Author.Tests.{eqb-true, eqb-false, leb-true, leb-false, lt-ltb, le-ltb}
+use borrow.Author.Tests.{eqb-true, eqb-false, leb-true, leb-false, eq-eqb, le-leb, lt-ltb, le-ltb}
 use lib.Dec.{eqb, leb}
 use lib.ListN.{length, take}
 use Rattle.byte.specs.Byte.{pick}
@@ -22,7 +22,7 @@ use Rattle.demands.proofs.Telling.{accepted-readable}
 use Rattle.limits.specs.Limits.{number, shows, reports}
 use Rattle.limits.proofs.Room.{report-fits}
 use Rattle.limits.proofs.Entries.{enters}
-use Rattle.limits.specs.Entered.{writtenBy, enteredBy, EntryThree}
+use Rattle.limits.specs.Entered.{writtenBy, enteredBy, Roomy, SameEntry, EntryThree}
 
 -- what is handed back for a text that gives the number n and the report x, into m bytes; and what is written
 abbrev handed : ℕ → List ℕ → ℕ → ℕ
@@ -64,15 +64,9 @@ module _ (s d : List ℕ) where
   wrote-is : (p : List ℕ) → enteredBy s d p ≡ wrote (number s d) (reports s d) (length p)
   wrote-is p = wrote-by p (eqb (number s d) 0) (leb (length (reports s d)) (length p)) refl refl
 
-  -- a length is handed back for an accepted text alone, with its report
-  told-by : (p : List ℕ) → entry s d (length p) < 1000000 → (a b : Bool) → eqb (number s d) 0 ≡ a → leb (length (reports s d)) (length p) ≡ b
-      → (number s d ≡ 0) × (enteredBy s d p ≡ reports s d)
-  told-by p h true true z r = (eqb-true (number s d) 0 z, wrote-by p true true z r)
-  told-by p h true false z r = absurd (omega (arith, entry-by (length p) true false z r))
-  told-by p h false b z r = absurd (omega (arith, entry-by (length p) false b z r))
-
-  told : (p : List ℕ) → entry s d (length p) < 1000000 → (number s d ≡ 0) × (enteredBy s d p ≡ reports s d)
-  told p h = told-by p h (eqb (number s d) 0) (leb (length (reports s d)) (length p)) refl refl
+  -- an accepted text with room for its report: that is what is written
+  told : (p : List ℕ) → Roomy s d p → enteredBy s d p ≡ reports s d
+  told p h = wrote-by p true true (eq-eqb (number s d) 0 (h .accepted)) (le-leb (length (reports s d)) (length p) (h .room))
 
 module _ (s d p t e q : List ℕ) where
   module _ (r : Readable s d) (k : Readable t e) (a : Alike (reading s) (reading t)) (l : length p ≡ length q) where
@@ -85,8 +79,25 @@ module _ (s d p t e q : List ℕ) where
         ∙ ap (λ (x : List ℕ). f (number t e) x (length p)) (same-report s t d e r k a)
         ∙ ap (f (number t e) (reports t e)) l
 
-    entry-blind : (entry s d (length p) ≡ entry t e (length q)) × (enteredBy s d p ≡ enteredBy t e q)
-    entry-blind = (entry-is s d (length p) ∙ same handed ∙ sym (entry-is t e (length q)), wrote-is s d p ∙ same wrote ∙ sym (wrote-is t e q))
+    -- report buffers that held the same: the report is written over both, or both are as they were
+    left-by : p ≡ q → (accepted : Bool) → eqb (number s d) 0 ≡ accepted → entryLeft s d p ≡ entryLeft t e q
+    left-by o true z =
+        enters s d .leaves p (eqb-true (number s d) 0 z)
+        ∙ ap (λ (x : List ℕ). written x 0 (reports s d)) o
+        ∙ ap (written q 0) (same-report s t d e r k a)
+        ∙ sym (enters t e .leaves q (sym same-number ∙ eqb-true (number s d) 0 z))
+    left-by o false z =
+        enters s d .untouched p (eqb-false (number s d) 0 z)
+        ∙ o
+        ∙ sym (enters t e .untouched q (λ (n : number t e ≡ 0). eqb-false (number s d) 0 z (same-number ∙ n)))
+
+    entry-blind : SameEntry s d p t e q
+    entry-blind =
+        record {
+          number = entry-is s d (length p) ∙ same handed ∙ sym (entry-is t e (length q));
+          bytes = wrote-is s d p ∙ same wrote ∙ sym (wrote-is t e q);
+          buffer = λ o. left-by o (eqb (number s d) 0) refl;
+        }
 
   pub entry-three : EntryThree s d p t e q
   entry-three =
@@ -96,6 +107,6 @@ module _ (s d p t e q : List ℕ) where
             λ g h.
             let x = told s d p g in
             let y = told t e q h in
-            let k = Told.telling (shows s d) (shows t e) (read-ranged s d (accepted-readable s d (x .0))) (read-ranged t e (accepted-readable t e (y .0))) in
-            ((λ z. k .0 (sym (x .1) ∙ z ∙ y .1)), (λ z. x .1 ∙ k .1 z ∙ sym (y .1)));
+            let k = Told.telling (shows s d) (shows t e) (read-ranged s d (accepted-readable s d (g .accepted))) (read-ranged t e (accepted-readable t e (h .accepted))) in
+            ((λ z. k .0 (sym x ∙ z ∙ y)), (λ z. x ∙ k .1 z ∙ sym y));
       }
