@@ -31,7 +31,7 @@ pick-through : {A B : Type 0} (f : A → B) (q : Bool) (a c : A) → f (pick q a
 pick-through f true a c = refl
 pick-through f false a c = refl
 
--- lists of sixteen places, as every record's are
+-- lists of sixteen places, as every record's are: proofs/Placed
 pub record Placed (c : Config) : Type 0 where
   pub addresses : length (c .hostaddr .list) ≡ 16
   pub ports : length (c .port .list) ≡ 16
