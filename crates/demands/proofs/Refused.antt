@@ -28,9 +28,9 @@ key-five : (f : Fault) (kind : ℕ) → numberOf f ≡ 5 → keyOf f kind ≡ ki
 key-five f kind h = rw (eq-eqb (numberOf f) 5 h)
 
 -- the first that can't be applied, by its kind
-first-reason : (s : List ℕ) (f : Fails s) → Reason (kindOf (f .setting)) (numberOf (f .fault))
+first-reason : (s : List ℕ) (f : Fails s) → Reason (f .config) (valueOf (f .setting)) (kindOf (f .setting)) (numberOf (f .fault))
 first-reason s f =
-    subst (λ (x : Fault). Reason (kindOf (f .setting)) (numberOf x)) (f .has)
+    subst (λ (x : Fault). Reason (f .config) (valueOf (f .setting)) (kindOf (f .setting)) (numberOf x)) (f .has)
     (reason (valueOf (f .setting)) (length (joined (f .before))) (f .config) (f .setting) (ap isFine (f .has) ∙ f .fails))
 
 -- 4 is given for an unknown key, and for nothing else

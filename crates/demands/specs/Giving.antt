@@ -1,11 +1,12 @@
 -- What a text gives, as document 01 says it: which settings can be applied, which setting is the first that can't, and the answer in each case.
 -- Assumes nothing.
-use Prim.Native.Nat.{ℕ, _≤_, _<_}
+use Prim.Native.Nat.{ℕ, _+_, _≤_, _<_}
 use mathlib.Core.Path.{_≡_}
 use mathlib.Core.Bool.{true, false}
 use mathlib.Core.List.{List, [], _∷_, _++_}
 use lib.ListN.{length}
 use Rattle.utf8.specs.Utf8.{wellFormed}
+use Rattle.split.specs.Split.{split}
 use Rattle.setting.specs.Setting.{Setting, kindOf, valueOf}
 use Rattle.lists.specs.declared.Fault.{Fault}
 use Rattle.lists.specs.Fault.{isFine, numberOf, keyOf}
@@ -43,15 +44,15 @@ pub record FailsFrom (b : List ℕ) (c : Config) (xs : List Setting) : Type 0 wh
 abbrev pub Fails : List ℕ → Type 0
 Fails s = FailsFrom [] defaults (reading s .settings)
 
--- the kinds of settings that can't be applied, and their numbers: 4 "unknown key"; 5 "known key, value not allowed"; 13, 14, 15 "a 17th host, hostaddr, port".
--- Texts (1 to 5) can always be applied; kind 20 is one host from a URI.
-pub data Reason : ℕ → ℕ → Type 0 where
-  unknown-key : Reason 0 4
-  value : {kind : ℕ} → 6 ≤ kind → kind ≤ 19 → Reason kind 5
-  hosts : Reason 8 13
-  one-host : Reason 20 13
-  hostaddrs : Reason 9 14
-  ports : Reason 10 15
+-- why a setting with the value v can't be applied to a record c, by its kind and the number: 4 "unknown key"; 5 "known key, value not allowed", which no text (1 to 5) and no
+-- host (8) meets; 13, 14, 15 "a 17th host, hostaddr, port": those counted and the value's pieces are more than 16. Kind 20 is one host from a URI.
+pub data Reason (c : Config) (v : List ℕ) : ℕ → ℕ → Type 0 where
+  unknown-key : Reason c v 0 4
+  value : {kind : ℕ} → 6 ≤ kind → kind ≤ 19 → (kind ≡ 8 → ⊥) → Reason c v kind 5
+  hosts : 16 < c .host .count + length (split 44 v) → Reason c v 8 13
+  one-host : 16 < c .host .count + 1 → Reason c v 20 13
+  hostaddrs : 16 < c .hostaddr .count + length (split 44 v) → Reason c v 9 14
+  ports : 16 < c .port .count + length (split 44 v) → Reason c v 10 15
 
 -- "if all can"
 pub record WholeFrom (b : List ℕ) (c : Config) (xs : List Setting) : Type 0 where

@@ -7,7 +7,7 @@ use mathlib.Core.List.{List, _++_}
 use mathlib.Core.Logic.{_⊎_, _↔_}
 use lib.ListN.{length, take, drop, replicate}
 use Rattle.utf8.specs.Utf8.{wellFormed}
-use Rattle.setting.specs.Setting.{kindOf}
+use Rattle.setting.specs.Setting.{kindOf, valueOf}
 use Rattle.lists.specs.Fault.{numberOf}
 use Rattle.config.specs.Config.{defaults}
 use Rattle.reader.specs.declared.Answer.{Answer}
@@ -55,10 +55,10 @@ pub record Refusing (s d : List ℕ) : Type 0 where
   pub one : (answer s (length d) .number ≡ 1) ↔ (4096 < length s)
   pub two : (answer s (length d) .number ≡ 2) ↔ ((length s ≤ 4096) × (length d < length s))
   pub three : (answer s (length d) .number ≡ 3) ↔ ((length s ≤ 4096) × (length s ≤ length d) × (wellFormed s ≡ false))
-  -- 4, 5, 13, 14, 15: the first setting that can't be applied has the fault of this number, and its kind is the number's
+  -- 4, 5, 13, 14, 15: the first setting that can't be applied has the fault of this number, and there is a reason for it in its kind, its value and the record before it
   pub fault : (n : ℕ) → FaultNumber n → (answer s (length d) .number ≡ n) ↔ (Read s (length d) × ((f : Fails s) × (numberOf (f .fault) ≡ n)))
   pub four : (answer s (length d) .number ≡ 4) ↔ (Read s (length d) × ((f : Fails s) × (kindOf (f .setting) ≡ 0)))
-  pub reason : (f : Fails s) → Reason (kindOf (f .setting)) (numberOf (f .fault))
+  pub reason : (f : Fails s) → Reason (f .config) (valueOf (f .setting)) (kindOf (f .setting)) (numberOf (f .fault))
   -- 6 to 12: every setting can be applied, and the end has this number
   pub end : (n : ℕ) → 6 ≤ n → n ≤ 12 → (answer s (length d) .number ≡ n) ↔ (Read s (length d) × Whole s × (reading s .end ≡ n))
   -- 0: every setting can be applied, and the end is clean
