@@ -81,6 +81,29 @@ refuses t number key count = record { text = t; gives = record { answers = recor
 abbrev pub worked : String
 worked = "host=db1,/run/pg user=ann password='a b' port=6000,"
 
+-- its report, a line each
+abbrev pub workedLines : List String
+workedLines =
+    "user=ann" ∷
+    "password=_" ∷
+    "sslmode=prefer" ∷
+    "sslnegotiation=postgres" ∷
+    "host=tcp:db1" ∷
+    "host=unix:/run/pg" ∷
+    "port=6000" ∷
+    "port=5432" ∷
+    "keepalives=1" ∷
+    "keepalives_idle=7200" ∷
+    "target_session_attrs=any" ∷
+    "channel_binding=prefer" ∷
+    "load_balance_hosts=disable" ∷
+    []
+
+-- lines, "each ended by byte 0x0A"
+abbrev pub printed : List String → List ℕ
+printed [] = []
+printed (l ∷ ls) = bytes l ++ (0x0A ∷ []) ++ printed ls
+
 -- "So a bad first setting wins over broken syntax behind it."
 abbrev pub brokenBehind : Row
 brokenBehind = refuses "port=x user" 5 10 0
