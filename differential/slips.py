@@ -381,7 +381,7 @@ fn last_at_sign(s: &[u8], at: usize) -> usize {
     ]),
     ("first_of_repeated_users_stays", [
         ("param", "    next.user = text;\n", """\
-    let old = c.user;
+    let old = p.user;
     if !old.set {
         next.user = text;
     }
