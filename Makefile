@@ -1,5 +1,5 @@
 # run           read a text from standard input, write its report or its refusal
-# test          the gate: layout, the small runs beside Rust, the host in C, PostgreSQL, then every proof from nothing
+# test          the gate: layout, the small runs beside Rust, the host in C, the program, PostgreSQL, then every proof from nothing
 # test-postgres sessions opened by the gateway in C with a PostgreSQL 15 that is started for it: seconds
 # staticlib     build/libnyimbrak.a, for C to link with include/nyimbrak.h
 # differential  the large runs beside Rust: some minutes at most
@@ -15,6 +15,7 @@ test: kit
 	rt fmt --check
 	differential/run.sh small
 	scripts/host.sh
+	scripts/program.sh
 	scripts/postgres.sh gate
 	rt ci
 

@@ -1,2 +1,3 @@
 pub mod Line
 pub mod Outputs
+pub mod Examples
