@@ -89,7 +89,7 @@ as_server() {
 
 # The user ann with a blank in her password, and a database.
 make_server() {
-    dir=$(mktemp -d /tmp/nyimbrak.XXXXXX) # a socket's path must be short
+    dir=$(mktemp -dt nyimbrak.XXXXXX) # short, since a socket has its path in it
     (as_server $server/initdb -D "$dir/data" -U owner -A trust -E UTF8 --locale=C --no-sync) >build/server.log 2>&1 ||
         fail 'initdb failed' build/server.log
     printf '%s\n' "CREATE ROLE ann LOGIN PASSWORD 'left shoe'" 'CREATE DATABASE shoes OWNER ann' |
