@@ -1,5 +1,5 @@
 # run           read a text from standard input, write its report or its refusal
-# test          the gate: layout, the small runs beside Rust, the host in C, the program, PostgreSQL, then every proof from nothing
+# test          the gate: layout, every proof from nothing, then, of what is proved, the small runs beside Rust, the host in C, the program, PostgreSQL
 # test-postgres sessions opened by the gateway in C with a PostgreSQL 15 that is started for it: seconds
 # staticlib     build/libnyimbrak.a, for C to link with include/nyimbrak.h
 # differential  the large runs beside Rust: some minutes at most
@@ -11,13 +11,15 @@
 run: kit
 	@scripts/run.sh
 
+# rt ci goes first: what it has proved is not proved again for the archives. Its last line is said once more at the end.
 test: kit
 	rt fmt --check
+	scripts/ci.sh
 	differential/run.sh small
 	scripts/host.sh
 	scripts/program.sh
 	scripts/postgres.sh gate
-	rt ci
+	@tail -n 1 build/ci.log
 
 test-postgres: kit
 	scripts/postgres.sh test

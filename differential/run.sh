@@ -39,6 +39,7 @@ fail() {
 }
 
 . scripts/tools.sh
+. scripts/kept.sh
 
 case $(uname -m) in
 x86_64)
@@ -57,20 +58,6 @@ missing() {
     find_percent >/dev/null || echo librust-percent-encoding-dev
     command -v "$linker" >/dev/null || echo "$linker_packages"
     [ ${#run[@]} = 0 ] || command -v "${run[0]}" >/dev/null || echo qemu-user
-}
-
-# rt ci removes target/, so what is built of a crate is kept here, for as long as no crate and no kit changes.
-build_proved() {
-    local command=$1 name=$2 file=$3 sum
-    sum=$({
-        rt version
-        cat crates.txt
-        find crates -type f \( -name '*.rt' -o -name '*.antt' \) -print0 | LC_ALL=C sort -z | xargs -0 sha256sum
-    } | sha256sum)
-    [ ! -e "$build/${file##*/}" ] || [ "$sum" != "$(cat "$build/$name.sum" 2>/dev/null)" ] || return 0
-    rt "$command" "$name" >"$build/rt.log" 2>&1 || fail "crate $name is not proved" "$build/rt.log"
-    cp "target/$file" "$build/${file##*/}"
-    echo "$sum" >"$build/$name.sum"
 }
 
 rust() {
@@ -107,13 +94,12 @@ if [ "$size" = vectors ]; then
     sed -n 's/ vectors, .*/ as they should be, 0 differ/p' "$build/vectors.log" >crates/replay/stdout
     exit 0
 fi
-with_archives=()
-for archive in probe probe_record dock; do
-    build_proved staticlib "$archive" "staticlib/lib$archive.a"
-    with_archives+=(-l "static=$archive")
-done
-rust --crate-name beside --extern percent_encoding "${with_original[@]}" -L native="$build" "${with_archives[@]}" differential/beside/main.rs
-build_proved check probe_setters bin/probe_setters
+archive libprobe.a probe
+archive libprobe_record.a probe_record
+archive libnyimbrak.a dock
+kept probe_setters target/bin/probe_setters rt check probe_setters
+rust --crate-name beside --extern percent_encoding "${with_original[@]}" -L native=build \
+    -l static=probe -l static=probe_record -l static=nyimbrak differential/beside/main.rs
 "${run[@]}" "$build/beside" calls "$size" "$seed" "$build/calls"
-"${run[@]}" "$build/probe_setters" <"$build/calls" >"$build/answers"
+"${run[@]}" build/probe_setters <"$build/calls" >"$build/answers"
 "${run[@]}" "$build/beside" "$size" "$seed" "$build/answers"

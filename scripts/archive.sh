@@ -3,4 +3,4 @@
 set -euo pipefail
 cd "$(dirname "$0")/.."
 . scripts/kept.sh
-kept libnyimbrak.a target/staticlib/libdock.a rt staticlib dock
+archive libnyimbrak.a dock

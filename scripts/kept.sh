@@ -16,6 +16,16 @@ kept() {
     echo "$sum" >"build/$name.sum"
 }
 
+# archive NAME CRATE: build/NAME is the proved archive of CRATE. What it stands on is proved first, by all processors: rt staticlib uses one.
+archive() {
+    kept "$1" "target/staticlib/lib$2.a" build_archive "$2"
+}
+
+build_archive() {
+    # shellcheck disable=SC2046
+    rt check $(sed -n "s/^$1://p" crates.txt) && rt staticlib "$1"
+}
+
 # Builds the program if needed; `run` is the command that runs it, on aarch64 by the kit's emulator.
 build_program() {
     local kit tools
