@@ -398,10 +398,10 @@ fn last_at_sign(s: &[u8], at: usize) -> usize {
         ("decimal", "put_fixed(b as u64, 16, true, 2, dst, at)", "put_fixed(b as u64, 16, false, 2, dst, at)"),
     ]),
     ("blank_not_escaped", [
-        ("draw", "byte::is_between(0x21, 0x7E, b)", "byte::is_between(0x20, 0x7E, b)"),
+        ("escape", "byte::is_between(0x21, 0x7E, b)", "byte::is_between(0x20, 0x7E, b)"),
     ]),
     ("percent_not_escaped", [
-        ("draw", "    b != b'%'\n", "    true\n"),
+        ("escape", "    b != b'%'\n", "    true\n"),
     ]),
     ("unix_host_told_as_tcp", [
         ("lines", "draw::put_bytes(b\"unix:\", dst, pen)", "draw::put_bytes(b\"tcp:\", dst, pen)"),

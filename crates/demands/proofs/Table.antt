@@ -27,7 +27,7 @@ use Rattle.keyvalue.specs.Scan as Scan
 use Rattle.url.specs.Uri as Uri
 use Rattle.reader.specs.Reader as Reader
 use Rattle.draw.specs.Parts as Parts
-use Rattle.draw.specs.Escape as Escape
+use Rattle.escape.specs.Escape as Escape
 use Rattle.lines.specs.Line as Line
 use Rattle.report.specs.Report as Report
 use Rattle.report.specs.Report.{report}

@@ -8,7 +8,7 @@ ghost use Rattle.byte.specs.Byte.{pick};
 ghost use Rattle.byte.specs.Put.{written, after};
 ghost use Rattle.names.specs.Names.{keyName, wordName};
 ghost use Rattle.decimal.specs.Decimal.{decimal, hexDigits};
-ghost use Rattle.draw.specs.Escape.{plain, allPlain, escape, textValue};
+ghost use Rattle.escape.specs.Escape.{escape, textValue};
 ghost use Rattle.draw.specs.Pen.{moved, sheet, drawn};
 
 // The place of the next byte; whether all before it had room; whether bytes are written, or only counted.
@@ -124,73 +124,16 @@ pub fn put_bytes(x: &[u8], dst: &mut [u8], pen: Pen) -> Pen
     next
 }
 
-// Whether a byte stands as it is.
-fn is_plain(b: u8) -> bool
-    ensures { λ r. ⌜ r ≡ plain b ⌝ }
-{
-    if !byte::is_between(0x21, 0x7E, b) {
-        return false;
-    }
-    b != b'%'
-}
-
-fn escape_len(b: u8) -> usize
-    ensures { λ r. ⌜ r ≡ length (escape b) ⌝ }
-{
-    if is_plain(b) { 1 } else { 3 }
-}
-
-// Writes a byte as it stands or escaped; with no room it writes nothing.
-fn write_escape(b: u8, dst: &mut [u8], at: usize) -> usize
-    ensures { λ r. ⌜ r ≡ after (now (dst .entry)) at (escape b) ⌝ }
-    ensures { λ _. ⌜ now (dst .exit) ≡ written (now (dst .entry)) at (escape b) ⌝ }
-{
-    if is_plain(b) {
-        return byte::put(dst, at, b);
-    }
-    if !byte::has_room(dst.len(), at, 3) {
-        return at;
-    }
-    let digits = byte::put(dst, at, b'%');
-    decimal::put_hex2_upper(b, dst, digits)
-}
-
 pub fn put_escape(b: u8, dst: &mut [u8], pen: Pen) -> Pen
     ensures { λ r. ⌜ sheet (now (dst .exit)) r ≡ drawn (sheet (now (dst .entry)) pen) (escape b ∷ []) ⌝ }
 {
-    let next = move_by(pen, escape_len(b), dst.len());
+    let next = move_by(pen, escape::escape_len(b), dst.len());
     if !writes(pen) {
         return next;
     }
     let at = pen.at;
-    write_escape(b, dst, at);
+    escape::write_escape(b, dst, at);
     next
-}
-
-// 0 for a byte that stands as it is, 1 for one that is escaped.
-fn mark(b: u8) -> u8
-    ensures { λ r. ⌜ r ≡ pick (plain b) 0 1 ⌝ }
-{
-    if is_plain(b) { 0 } else { 1 }
-}
-
-fn greater(a: u8, b: u8) -> u8
-    ensures { λ r. ⌜ r ≡ pick (ltb a b) b a ⌝ }
-{
-    if a < b { b } else { a }
-}
-
-// Whether every byte stands as it is: by the greatest mark, since a loop that leaves early is not made into wide steps.
-fn all_plain(x: &[u8]) -> bool
-    ensures { λ r. ⌜ r ≡ allPlain (now (x .entry)) ⌝ }
-{
-    let mut most = 0u8;
-    let mut i = 0;
-    while i < x.len() {
-        most = greater(most, mark(x[i]));
-        i += 1;
-    }
-    most == 0
 }
 
 // A text, byte by byte: as much of it as has room.
@@ -210,7 +153,7 @@ fn put_escapes(x: &[u8], dst: &mut [u8], pen: Pen) -> Pen
 pub fn put_text(x: &[u8], dst: &mut [u8], pen: Pen) -> Pen
     ensures { λ r. ⌜ sheet (now (dst .exit)) r ≡ drawn (sheet (now (dst .entry)) pen) (textValue (now (x .entry))) ⌝ }
 {
-    if !all_plain(x) {
+    if !escape::all_plain(x) {
         return put_escapes(x, dst, pen);
     }
     let next = move_by(pen, x.len(), dst.len());

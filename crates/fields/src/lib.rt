@@ -2,7 +2,7 @@
 ghost use mathlib.Core.Path.{_≡_};
 ghost use mathlib.Core.List.{[], _∷_, map};
 ghost use Rattle.byte.specs.Byte.{pick};
-ghost use Rattle.draw.specs.Escape.{textValue};
+ghost use Rattle.escape.specs.Escape.{textValue};
 ghost use Rattle.draw.specs.Pen.{sheet, drawn};
 ghost use Rattle.lines.specs.Line.{secretValue, addressValue, numberValue, line, lines};
 ghost use Rattle.config.specs.Values.{placeShown, textShown, hostShown, hostsShown, addressesShown, portsShown, secondsShown, retriesShown};

@@ -17,7 +17,7 @@ use Rattle.decimal.proofs.Laws.{decimal-most, decimal-one-long, decimal-longer}
 use Rattle.decimal.proofs.Fixed.{hex-length}
 use Rattle.address.specs.declared.Kind.{Kind}
 use Rattle.draw.specs.Parts.{joined}
-use Rattle.draw.specs.Escape.{textValue}
+use Rattle.escape.specs.Escape.{textValue}
 use Rattle.draw.proofs.Parts.{joined-none, joined-cons, joined-one, joined-append}
 use Rattle.draw.proofs.Escape.{text-size}
 use Rattle.lines.specs.Line.{secretValue, wordValue, hostValue, numberValue, fourValue, quadValue, kindValue}

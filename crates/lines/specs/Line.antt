@@ -10,7 +10,7 @@ use Rattle.decimal.specs.Decimal.{decimal, hexDigits}
 use Rattle.address.specs.declared.Kind.{Kind}
 use Rattle.address.specs.declared.Address.{Address}
 use Rattle.draw.specs.Parts.{joined}
-use Rattle.draw.specs.Escape.{textValue}
+use Rattle.escape.specs.Escape.{textValue}
 
 -- "A set password reads `_`."
 unfoldable pub secretValue : List (List ℕ)

@@ -7,7 +7,7 @@ ghost use Rattle.byte.specs.Byte.{pick};
 ghost use Rattle.names.specs.Names.{keyName};
 ghost use Rattle.decimal.specs.Decimal.{decimal, hexDigits};
 ghost use Rattle.address.specs.declared.Kind.{Kind};
-ghost use Rattle.draw.specs.Escape.{textValue};
+ghost use Rattle.escape.specs.Escape.{textValue};
 ghost use Rattle.draw.specs.Pen.{sheet, drawn};
 ghost use Rattle.lines.specs.Line.{secretValue, wordValue, hostValue, numberValue, fourValue, quadValue, kindValue, addressValue, line};
 use address::Address;

@@ -6,7 +6,7 @@ use mathlib.Core.List.{List, [], _∷_, map}
 use native.Mathlib.Omega.{arith}
 use lib.ListN.{length, take, drop}
 use Rattle.byte.specs.Byte.{pick}
-use Rattle.draw.specs.Escape.{textValue}
+use Rattle.escape.specs.Escape.{textValue}
 use Rattle.lines.specs.Line.{secretValue, wordValue, numberValue, addressValue, line, lines, linesFrom}
 use Rattle.draw.specs.Pen.{Sheet, drawn}
 use Rattle.lines.proofs.Lines.{draw-one, draw-more, draw-last, draw-split}

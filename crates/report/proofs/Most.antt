@@ -17,7 +17,7 @@ use Rattle.decimal.specs.Decimal.{decimal}
 use Rattle.decimal.proofs.Laws.{decimal-most}
 use Rattle.address.specs.declared.Address.{Address}
 use Rattle.draw.specs.Parts.{joined}
-use Rattle.draw.specs.Escape.{textValue}
+use Rattle.escape.specs.Escape.{textValue}
 use Rattle.draw.proofs.Escape.{text-size}
 use Rattle.lines.specs.Line.{secretValue, wordValue, hostValue, numberValue, addressValue, lines, linesFrom}
 use Rattle.lines.proofs.Lines.{lines-size-none, lines-size-cons, from-size-none, from-size-cons}

@@ -3,7 +3,7 @@
 use Prim.Native.Nat.{ℕ}
 use mathlib.Core.List.{List, [], _∷_, map}
 use Rattle.draw.specs.Parts.{joined}
-use Rattle.draw.specs.Escape.{textValue}
+use Rattle.escape.specs.Escape.{textValue}
 use Rattle.lines.specs.Line.{secretValue, wordValue, numberValue, addressValue, linesFrom}
 use Rattle.fields.specs.Field.{modeNumber, negotiationNumber, targetNumber, bindingNumber, balanceNumber, optional, namedHost, switchValue}
 use Rattle.config.specs.Values.{Values}

@@ -26,8 +26,9 @@ use Rattle.decimal.proofs.Fixed.{hex-length, hex-digits, hex-value}
 use Rattle.decimal.proofs.Laws.{decimal-value}
 use Rattle.address.specs.declared.Kind.{Kind}
 use Rattle.draw.specs.Parts.{joined}
-use Rattle.draw.specs.Escape.{plain, escape, textValue}
-use Rattle.draw.proofs.Escape.{escape-plain, escape-other, text-none, text-cons}
+use Rattle.escape.specs.Escape.{plain, escape, textValue}
+use Rattle.escape.proofs.Escape.{escape-plain, escape-other}
+use Rattle.draw.proofs.Escape.{text-none, text-cons}
 use Rattle.lines.specs.Line.{wordValue, hostValue, numberValue, quadValue, kindValue}
 use Rattle.lines.proofs.Values.{word-joined, number-joined, host-joined, four-joined, quad-joined, v4-joined, v6-joined, quad-size}
 use Rattle.config.specs.Values.{HostValue, tcp, unix}

@@ -9,7 +9,7 @@ use native.Mathlib.Omega.{arith}
 use lib.ListN.{length}
 use Rattle.byte.specs.Ascii.{bytes}
 use Rattle.names.specs.Names.{keyName}
-use Rattle.draw.specs.Escape.{textValue}
+use Rattle.escape.specs.Escape.{textValue}
 use Rattle.draw.proofs.Escape.{text-size}
 use Rattle.lines.specs.Line.{numberValue, lines}
 use Rattle.lines.proofs.Lines.{lines-size-none, lines-size-cons}

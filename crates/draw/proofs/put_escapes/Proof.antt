@@ -3,7 +3,7 @@ use mathlib.Core.Path.{_≡_, refl}
 use native.Mathlib.Omega.{arith}
 use lib.ListN.{length, drop}
 use borrow.Author.Needs.{needs}
-use Rattle.draw.specs.Escape.{textValue}
+use Rattle.escape.specs.Escape.{textValue}
 use Rattle.draw.specs.Pen.{sheet, drawn}
 use Rattle.draw.proofs.Drawing.{drawn-alike}
 use Rattle.draw.proofs.Escape.{text-more, text-done}

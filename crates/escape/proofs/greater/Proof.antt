@@ -1,6 +1,6 @@
 use borrow.Author.Tests.{lt-ltb, le-ltb}
-use Rattle.draw.proofs.greater.Statement.{statement}
-use Rattle.draw.proofs.greater.Tie as tie
+use Rattle.escape.proofs.greater.Statement.{statement}
+use Rattle.escape.proofs.greater.Tie as tie
 
 returns : tie.Need-returns
 returns c = rw (lt-ltb _ _ (c .if1 .taken))

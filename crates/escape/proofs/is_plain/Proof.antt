@@ -1,9 +1,9 @@
 use mathlib.Core.Path.{sym, _∙_}
 use borrow.Author.Tests.{not-true, not-false}
-use Rattle.draw.proofs.Escape.{plain-out, plain-in}
+use Rattle.escape.proofs.Escape.{plain-out, plain-in}
 use borrow.Author.Needs.{needs}
-use Rattle.draw.proofs.is_plain.Statement.{statement}
-use Rattle.draw.proofs.is_plain.Tie as tie
+use Rattle.escape.proofs.is_plain.Statement.{statement}
+use Rattle.escape.proofs.is_plain.Tie as tie
 
 is-between-requires : tie.Need-is-between-requires
 is-between-requires c κs = search needs

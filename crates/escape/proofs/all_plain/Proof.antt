@@ -5,10 +5,10 @@ use native.Mathlib.Omega.{arith}
 use lib.Dec.{eqb}
 use lib.ListN.{length, drop}
 use borrow.Author.Needs.{needs}
-use Rattle.draw.specs.Escape.{allPlain}
-use Rattle.draw.proofs.Plain.{plain-more, plain-done}
-use Rattle.draw.proofs.all_plain.Statement.{statement}
-use Rattle.draw.proofs.all_plain.Tie as tie
+use Rattle.escape.specs.Escape.{allPlain}
+use Rattle.escape.proofs.Plain.{plain-more, plain-done}
+use Rattle.escape.proofs.all_plain.Statement.{statement}
+use Rattle.escape.proofs.all_plain.Tie as tie
 
 abbrev Inv-loop : tie.InvT-loop
 Inv-loop x most₀ i₀ most i = allPlain x ≡ eqb most 0 && allPlain (drop i x)

@@ -5,11 +5,11 @@ use mathlib.Core.Bool.{false}
 use lib.ListN.{length}
 use borrow.Author.Tests.{leb-true, leb-false, not-true, not-false}
 use Rattle.byte.proofs.Writing.{written-short, after-short}
-use Rattle.draw.specs.Escape.{plain, escape}
-use Rattle.draw.proofs.Escape.{escape-plain, escape-long, escape-written, escape-after}
+use Rattle.escape.specs.Escape.{plain, escape}
+use Rattle.escape.proofs.Escape.{escape-plain, escape-long, escape-written, escape-after}
 use borrow.Author.Needs.{needs}
-use Rattle.draw.proofs.write_escape.Statement.{statement}
-use Rattle.draw.proofs.write_escape.Tie as tie
+use Rattle.escape.proofs.write_escape.Statement.{statement}
+use Rattle.escape.proofs.write_escape.Tie as tie
 
 is-plain-requires : tie.Need-is-plain-requires
 is-plain-requires c κs = search needs

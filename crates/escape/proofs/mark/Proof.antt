@@ -1,8 +1,8 @@
 use mathlib.Core.Path.{sym, _∙_}
-use Rattle.draw.proofs.Plain.{mark-plain, mark-other}
+use Rattle.escape.proofs.Plain.{mark-plain, mark-other}
 use borrow.Author.Needs.{needs}
-use Rattle.draw.proofs.mark.Statement.{statement}
-use Rattle.draw.proofs.mark.Tie as tie
+use Rattle.escape.proofs.mark.Statement.{statement}
+use Rattle.escape.proofs.mark.Tie as tie
 
 is-plain-requires : tie.Need-is-plain-requires
 is-plain-requires c κs = search needs

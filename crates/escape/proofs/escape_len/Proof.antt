@@ -1,9 +1,9 @@
 use mathlib.Core.Path.{sym, ap, _∙_}
 use lib.ListN.{length}
-use Rattle.draw.proofs.Escape.{escape-plain, escape-long}
+use Rattle.escape.proofs.Escape.{escape-plain, escape-long}
 use borrow.Author.Needs.{needs}
-use Rattle.draw.proofs.escape_len.Statement.{statement}
-use Rattle.draw.proofs.escape_len.Tie as tie
+use Rattle.escape.proofs.escape_len.Statement.{statement}
+use Rattle.escape.proofs.escape_len.Tie as tie
 
 is-plain-requires : tie.Need-is-plain-requires
 is-plain-requires c κs = search needs
