@@ -1,25 +1,21 @@
--- Worked examples of percent decoding, and of what a scan tells of a decoded text: each a table under one statement.
+-- Worked examples of percent decoding: a table under one statement.
 -- Assumes nothing.
 use mathlib.Core.Path.{_≡_, refl}
-use mathlib.Core.Bool.{Bool, true, false, _&&_, not}
+use mathlib.Core.Bool.{Bool, true, _&&_}
 use mathlib.Core.List.{List, [], _∷_}
 use Prim.Native.Nat.{ℕ}
-use lib.Dec.{eqb}
 use Rattle.byte.specs.Ascii.{bytes}
-use Rattle.byte.specs.Byte.{pick, between}
+use Rattle.byte.specs.Byte.{between}
 use Rattle.byte.specs.Digit.{digitOf}
 use Rattle.byte.specs.Same.{same}
-use Rattle.utf8.specs.Utf8.{charAt, charOf, longer, two, three, four, least, greatest, wellFrom}
-use Rattle.percent.specs.Percent.{pieceOf, pieceAt, decodedFrom, decoded, checked}
+use Rattle.percent.specs.Percent.{pieceOf, pieceAt, decodedFrom, decoded}
 
--- a text decodes to these bytes; a scan tells this length, and whether it is UTF-8
+-- a text decodes to these bytes
 pub data Example : Type 0 where
   gives : List ℕ → List ℕ → Example
-  tells : List ℕ → ℕ → Bool → Example
 
 abbrev pub holds : Example → Bool
 holds (gives text decodes) = same (decoded text) decodes
-holds (tells text n u) = eqb (checked text .len) n && pick u (checked text .utf8) (not (checked text .utf8))
 
 abbrev pub all-hold : List Example → Bool
 all-hold [] = true
@@ -46,19 +42,3 @@ decodings =
 pub decodings-hold : all-hold decodings ≡ true
 unfolding same decoded decodedFrom pieceAt pieceOf digitOf between
 decodings-hold = refl
-
-abbrev pub checks : List Example
-checks =
-    tells (bytes "") 0 true ∷
-    tells (bytes "%C3%A9") 2 true ∷
-    tells (0xc3 ∷ bytes "%a9") 2 true ∷
-    tells (bytes "%C3") 1 false ∷
-    tells (bytes "%FF") 1 false ∷
-    tells (bytes "%c3%28") 2 false ∷
-    tells (bytes "%zz") 3 true ∷
-    tells (bytes "%ED%A0%80") 3 false ∷
-    []
-
-pub checks-hold : all-hold checks ≡ true
-unfolding decoded decodedFrom pieceAt pieceOf digitOf between wellFrom charAt charOf longer two three four least greatest
-checks-hold = refl

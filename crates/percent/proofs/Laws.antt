@@ -4,11 +4,12 @@ use mathlib.Core.Path.{_≡_, refl, ap, _∙_}
 use mathlib.Core.Bool.{Bool, true, false, _&&_}
 use mathlib.Core.List.{List, [], _∷_}
 use mathlib.Core.Logic.{_↔_}
-use Prim.Native.Nat.{ℕ, zero, suc, _+_, _*_, _<_, _≤_, zero-le, suc-le-suc}
+use Prim.Native.Nat.{ℕ, zero, suc, _+_, _-_, _*_, _<_, _≤_, zero-le, suc-le-suc}
 use native.Mathlib.Omega.{arith}
+use native.Mathlib.Nat.{add-zero}
 use lib.Dec.{eqb}
-use lib.ListN.{length, drop, getD, drop-of-length-le, List·getD-eq-default}
-use lib.Seq.{drop-cons, drop-drop, getD-drop}
+use lib.ListN.{length, take, drop, getD, drop-of-length-le, length-drop, List·getD-eq-default}
+use lib.Seq.{drop-cons, drop-drop, getD-drop, take-all}
 use borrow.Author.Tests.{eq-eqb, ne-eqb, lt-ltb, le-ltb}
 use Rattle.byte.specs.Byte.{pick, between}
 use Rattle.byte.specs.Digit.{digitOf}
@@ -132,3 +133,14 @@ module _ (s : List ℕ) (i n : ℕ) (so-far : length (decoded s) ≡ n + length 
 
   pub count-done : length s ≤ i → n ≡ length (decoded s)
   count-done h = omega (arith, ap length (stop s i h))
+
+-- a byte that is no `%` stands for itself at its place
+pub plain-step : (s : List ℕ) (i : ℕ) → i < length s → (getD s i 0 ≡ 37 → ⊥) → decoded (drop i s) ≡ getD s i 0 ∷ decoded (drop (i + 1) s)
+plain-step s i h n =
+    step s i h
+    ∙ ap (λ (p : Piece). p .byte ∷ decoded (drop (i + 1 + p .skip) s)) (other s i n)
+    ∙ ap (λ (k : ℕ). getD s i 0 ∷ decoded (drop k s)) (add-zero (i + 1))
+
+-- the text from a place on, as a slice has it
+pub slice-from : (s : List ℕ) (i : ℕ) → take (length s - i) (drop i s) ≡ drop i s
+slice-from s i = take-all (length s - i) (drop i s) (omega (arith, length-drop i s))

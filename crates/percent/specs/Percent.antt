@@ -4,12 +4,10 @@ use Prim.Native.Nat.{ℕ, zero, suc, _+_, _*_}
 use mathlib.Core.Bool.{Bool, _&&_}
 use mathlib.Core.List.{List, [], _∷_}
 use lib.Dec.{ltb, eqb}
-use lib.ListN.{length, getD}
+use lib.ListN.{getD}
 use Rattle.byte.specs.Byte.{pick}
 use Rattle.byte.specs.Digit.{digitOf}
-use Rattle.utf8.specs.Utf8.{wellFormed}
 use Rattle.percent.specs.declared.Piece.{Piece}
-use Rattle.percent.specs.declared.Checked.{Checked}
 
 -- a hex digit of either case
 abbrev pub isHex : ℕ → Bool
@@ -36,7 +34,3 @@ decodedFrom zero (a ∷ s) = pieceAt (a ∷ s) 0 .byte ∷ decodedFrom (pieceAt 
 -- the text decoded: piece after piece, the scan going on behind each
 unfoldable pub decoded : List ℕ → List ℕ
 decoded s = decodedFrom 0 s
-
--- what a scan that writes nothing tells of a text once decoded: its length, and whether it is UTF-8
-abbrev pub checked : List ℕ → Checked
-checked s = record { len = length (decoded s); utf8 = wellFormed (decoded s) }

@@ -10,7 +10,8 @@ ghost use Rattle.byte.specs.Put.{written, after};
 ghost use Rattle.space.specs.Space.{isSpace};
 ghost use Rattle.utf8.specs.Utf8.{charAt, wellFormed};
 ghost use Rattle.utf8.specs.Bytewise.{startState, nextState};
-ghost use Rattle.percent.specs.Percent.{decoded, checked};
+ghost use Rattle.percent.specs.Percent.{decoded};
+ghost use Rattle.percent_check.specs.Plain.{checked};
 ghost use Rattle.number.specs.Number.{digitsIn, unsignedOf, signedOf, as16, as32};
 ghost use Rattle.decimal.specs.Decimal.{decimal, hexDigits};
 ghost use Rattle.address.specs.Address.{addressOf};
@@ -162,7 +163,7 @@ pub extern "C" fn probe_decoded_len(s: &[u8]) -> usize
 pub extern "C" fn probe_check(s: &[u8]) -> Measured
     ensures { λ r. ⌜ r ≡ measured (checked (now (s .entry))) ⌝ }
 {
-    let m = percent::check(s);
+    let m = percent_check::check(s);
     Measured {
         len: m.len,
         utf8: m.utf8,
@@ -174,7 +175,7 @@ pub extern "C" fn probe_decode(src: &[u8], dst: &mut [u8], at: usize) -> usize
     ensures { λ r. ⌜ r ≡ after (now (dst .entry)) at (decoded (now (src .entry))) ⌝ }
     ensures { λ _. ⌜ now (dst .exit) ≡ written (now (dst .entry)) at (decoded (now (src .entry))) ⌝ }
 {
-    percent::decode(src, dst, at)
+    percent_decode::decode(src, dst, at)
 }
 
 // What was read, told by numbers.

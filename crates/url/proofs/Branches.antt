@@ -16,8 +16,9 @@ use Rattle.byte.proofs.Parts.{part-most, part-short}
 use Rattle.split.specs.Split.{firstAt}
 use Rattle.split.proofs.Split.{first-most}
 use Rattle.utf8.specs.Utf8.{wellFormed}
-use Rattle.percent.specs.declared.Checked.{Checked}
-use Rattle.percent.specs.Percent.{decoded, checked}
+use Rattle.percent_check.specs.declared.Checked.{Checked}
+use Rattle.percent.specs.Percent.{decoded}
+use Rattle.percent_check.specs.Plain.{checked}
 use Rattle.url.specs.declared.Stage.{Stage}
 use Rattle.url.specs.declared.Stage.the-variants.{Password, Host, Chunk, Port, Path, Params, Parameter}
 use Rattle.url.specs.declared.Url.{Url}

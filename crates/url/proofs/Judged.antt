@@ -7,10 +7,10 @@ use lib.ListN.{length, drop}
 use borrow.Author.Tests.{ne-eqb}
 use Rattle.byte.specs.Byte.{partOf}
 use Rattle.split.specs.Split.{firstAt}
-use Rattle.percent.specs.declared.Checked.{Checked}
-use Rattle.percent.specs.declared.Part.{Part}
-use Rattle.percent.specs.Percent.{checked}
-use Rattle.percent.specs.Plain.{checkedUntil}
+use Rattle.percent_check.specs.declared.Checked.{Checked}
+use Rattle.percent_check.specs.declared.Part.{Part}
+use Rattle.percent_check.specs.Plain.{checked}
+use Rattle.percent_check.specs.Plain.{checkedUntil}
 use Rattle.url.specs.declared.Stage.the-variants.{Password, Host, Params, Parameter}
 use Rattle.url.specs.declared.UrlStep.the-variants.{Given}
 use Rattle.url.specs.Step.{url, found, give, skipped, valueStep, databaseStep, paramsStep, passwordStep, credentialsStep}

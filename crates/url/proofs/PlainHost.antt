@@ -13,10 +13,10 @@ use borrow.Author.Tests.{eqb-true, eqb-false, ne-eqb, ltb-true, ltb-false, leb-f
 use Rattle.byte.specs.Byte.{pick, partOf}
 use Rattle.split.specs.Split.{firstAt}
 use Rattle.split.proofs.Split.{first-most}
-use Rattle.percent.specs.declared.Checked.{Checked}
-use Rattle.percent.specs.Percent.{checked}
-use Rattle.percent.specs.Plain.{plainUntil}
-use Rattle.percent.proofs.Runs.{run-more, whole-plain}
+use Rattle.percent_check.specs.declared.Checked.{Checked}
+use Rattle.percent_check.specs.Plain.{checked}
+use Rattle.percent_check.specs.Plain.{plainUntil}
+use Rattle.percent_check.proofs.Runs.{run-more, whole-plain}
 use Rattle.url.specs.declared.Stage.the-variants.{Port}
 use Rattle.url.specs.declared.UrlStep.the-variants.{Given}
 use Rattle.url.specs.Uri.{firstOf, endsHosts}

@@ -18,7 +18,8 @@ use Rattle.names.specs.Find.{keyNumber}
 use Rattle.split.specs.Split.{firstAt}
 use Rattle.split.proofs.Split.{first-most, first-within}
 use Rattle.utf8.specs.Utf8.{wellFormed}
-use Rattle.percent.specs.Percent.{decoded, checked}
+use Rattle.percent.specs.Percent.{decoded}
+use Rattle.percent_check.specs.Plain.{checked}
 use Rattle.percent.proofs.Laws.{shorter}
 use Rattle.setting.specs.Setting.{Setting, keyed, oneHost, kindOf, valueOf, Reading, ends, follows}
 use Rattle.url.specs.declared.Stage.{Stage}

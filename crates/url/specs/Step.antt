@@ -11,8 +11,9 @@ use Rattle.byte.specs.Same.{same}
 use Rattle.names.specs.Find.{keyNumber}
 use Rattle.split.specs.Split.{firstAt}
 use Rattle.utf8.specs.Utf8.{wellFormed}
-use Rattle.percent.specs.declared.Checked.{Checked}
-use Rattle.percent.specs.Percent.{decoded, checked}
+use Rattle.percent_check.specs.declared.Checked.{Checked}
+use Rattle.percent.specs.Percent.{decoded}
+use Rattle.percent_check.specs.Plain.{checked}
 use Rattle.setting.specs.Setting.{Reading}
 use Rattle.url.specs.declared.Stage.{Stage}
 use Rattle.url.specs.declared.Stage.the-variants.{Credentials, Password, Host, Chunk, Port, Path, Params, Parameter}

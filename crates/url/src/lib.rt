@@ -114,11 +114,11 @@ pub fn put_value(s: &[u8], f: Found, dst: &mut [u8], at: usize) -> usize
     if f.fixed {
         return byte::copy(&port, dst, at);
     }
-    percent::decode(byte::part(s, f.from, f.to), dst, at)
+    percent_decode::decode(byte::part(s, f.from, f.to), dst, at)
 }
 
 // A setting whose value was judged: it is given, or the reading ends with 12.
-fn decode(kind: usize, from: usize, to: usize, c: percent::Checked, next: Url) -> UrlStep
+fn decode(kind: usize, from: usize, to: usize, c: percent_check::Checked, next: Url) -> UrlStep
     ensures { λ r. ⌜ r ≡ give kind from to c next ⌝ }
 {
     if c.utf8 {
@@ -142,7 +142,7 @@ fn parse_credentials(s: &[u8], at: usize) -> UrlStep
     if s.len() <= end {
         return parse_host(s, at);
     }
-    let user = percent::check_until(byte::part(s, at, end), 0, b':');
+    let user = percent_check::check_until(byte::part(s, at, end), 0, b':');
     let judged = user.judged;
     let colon = at + user.end;
     if colon < end {
@@ -165,7 +165,7 @@ fn parse_credentials(s: &[u8], at: usize) -> UrlStep
 fn parse_password(s: &[u8], at: usize) -> UrlStep
     ensures { λ r. ⌜ r ≡ passwordStep at (drop at (now (s .entry))) ⌝ }
 {
-    let password = percent::check_until(s, at, b'@');
+    let password = percent_check::check_until(s, at, b'@');
     let end = password.end;
     let judged = password.judged;
     let next = Url {
@@ -375,15 +375,15 @@ fn parse_placed(s: &[u8], at: usize) -> UrlStep
 }
 
 // One host's length once decoded, and whether it may stand: a Unix path may be any bytes.
-fn host_param(v: &[u8]) -> percent::Checked
+fn host_param(v: &[u8]) -> percent_check::Checked
     ensures { λ r. ⌜ r ≡ hostChecked (now (v .entry)) ⌝ }
 {
-    let c = percent::check(v);
+    let c = percent_check::check(v);
     if c.utf8 {
         return c;
     }
     let first = percent::first(v);
-    percent::Checked {
+    percent_check::Checked {
         len: c.len,
         utf8: first == b'/',
     }
@@ -423,7 +423,7 @@ fn parse_port(s: &[u8], at: usize) -> UrlStep
         });
     }
     let from = at + 1;
-    let judged = percent::check(byte::part(s, from, end));
+    let judged = percent_check::check(byte::part(s, from, end));
     decode(PORT, from, end, judged, next)
 }
 
@@ -440,7 +440,7 @@ fn parse_path(s: &[u8], at: usize) -> UrlStep
 fn parse_database(s: &[u8], at: usize) -> UrlStep
     ensures { λ r. ⌜ r ≡ databaseStep at (drop at (now (s .entry))) ⌝ }
 {
-    let dbname = percent::check_until(s, at, b'?');
+    let dbname = percent_check::check_until(s, at, b'?');
     let end = dbname.end;
     if end <= at {
         return parse_params(s, at);
@@ -486,7 +486,7 @@ fn parse_value(s: &[u8], kind: usize, at: usize) -> UrlStep
     if kind == ONE_HOST {
         return parse_one_host(s, at);
     }
-    let value = percent::check_until(s, at, b'&');
+    let value = percent_check::check_until(s, at, b'&');
     let end = value.end;
     let judged = value.judged;
     let next = Url {
@@ -517,7 +517,7 @@ fn parse_key(key: &[u8]) -> usize
     if kind != 0 {
         return kind;
     }
-    let c = percent::check(key);
+    let c = percent_check::check(key);
     if c.utf8 { 0 } else { NO_KEY }
 }
 
@@ -540,7 +540,7 @@ fn decoded_kind(key: &[u8]) -> usize
     ensures { λ r. ⌜ r ≡ paramKind (decoded (now (key .entry))) ⌝ }
 {
     let mut name = [0u8; 20];
-    let n = percent::decode(key, &mut name, 0);
+    let n = percent_decode::decode(key, &mut name, 0);
     let number = names::key_number(byte::part(&name, 0, n));
     if number == HOST_KEY { ONE_HOST } else { number }
 }

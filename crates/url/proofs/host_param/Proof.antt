@@ -2,7 +2,7 @@
 -- Assumes nothing.
 use Rattle.url.proofs.Branches.{host-utf8, host-bytes}
 use mathlib.Core.Path.{sym, ap, _∙_}
-use Rattle.percent.specs.declared.Checked.{Checked}
+use Rattle.percent_check.specs.declared.Checked.{Checked}
 use borrow.Author.Needs.{needs}
 use Rattle.url.proofs.host_param.Statement.{statement}
 use Rattle.url.proofs.host_param.Tie as tie

@@ -5,7 +5,7 @@ use native.Mathlib.Omega.{arith}
 use lib.ListN.{length}
 use Rattle.byte.proofs.Parts.{part-most}
 use Rattle.split.proofs.Split.{first-most}
-use Rattle.percent.specs.declared.Part.{Part}
+use Rattle.percent_check.specs.declared.Part.{Part}
 use Rattle.url.proofs.Branches.{no-user}
 use Rattle.url.proofs.Judged.{user-judged-first, user-judged-only}
 use borrow.Author.Needs.{needs}

@@ -1,7 +1,7 @@
 -- `url::parse_key` meets its contract: a known key is UTF-8, and of any other the scan tells.
 -- Assumes nothing.
 use mathlib.Core.Path.{sym, ap, _∙_}
-use Rattle.percent.specs.declared.Checked.{Checked}
+use Rattle.percent_check.specs.declared.Checked.{Checked}
 use Rattle.url.proofs.Keys.{kind-known, kind-utf8, kind-broken}
 use borrow.Author.Needs.{needs}
 use Rattle.url.proofs.parse_key.Statement.{statement}

@@ -5,11 +5,11 @@ use native.Mathlib.Omega.{arith}
 use borrow.Author.Needs.{needs}
 use lib.ListN.{length, drop}
 use Rattle.utf8.specs.Bytewise.{startState, stateAfter}
 use Rattle.percent.specs.Percent.{decoded}
 use Rattle.percent.proofs.Laws.{small, counted, count-fits, count-done}
-use Rattle.percent.proofs.Judging.{judged, judge-done, told}
-use Rattle.percent.proofs.check_bytes.Statement.{statement}
-use Rattle.percent.proofs.check_bytes.Tie as tie
+use Rattle.percent_check.proofs.Judging.{judged, judge-done, told}
+use Rattle.percent_check.proofs.check_bytes.Statement.{statement}
+use Rattle.percent_check.proofs.check_bytes.Tie as tie
 
 abbrev Inv-loop : tie.InvT-loop
 Inv-loop s state₀ len₀ i₀ state len i =

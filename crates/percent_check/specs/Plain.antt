@@ -1,4 +1,4 @@
--- Runs of plain bytes, which need no decoding and are UTF-8, and what scans tell that pass over them.
+-- What scans tell of a text once decoded, and runs of plain bytes, which need no decoding and are UTF-8.
 -- Assumes nothing.
 use Prim.Native.Nat.{ℕ, suc, _+_}
 use mathlib.Core.Bool.{Bool, _||_}
@@ -8,9 +8,13 @@ use lib.ListN.{length, drop}
 use Rattle.byte.specs.Byte.{pick, partOf}
 use Rattle.split.specs.Split.{firstAt}
 use Rattle.utf8.specs.Utf8.{wellFormed}
-use Rattle.percent.specs.declared.Checked.{Checked}
-use Rattle.percent.specs.declared.Part.{Part}
-use Rattle.percent.specs.Percent.{decoded, checked}
+use Rattle.percent.specs.Percent.{decoded}
+use Rattle.percent_check.specs.declared.Checked.{Checked}
+use Rattle.percent_check.specs.declared.Part.{Part}
+
+-- what a scan that writes nothing tells of a text once decoded: its length, and whether it is UTF-8
+abbrev pub checked : List ℕ → Checked
+checked s = record { len = length (decoded s); utf8 = wellFormed (decoded s) }
 
 -- a byte that ends a run of plain ones: b, `%`, or one that is not ASCII
 unfoldable pub endsPlain : ℕ → ℕ → Bool

@@ -10,12 +10,11 @@ use Rattle.byte.proofs.Writing.{length-written}
 use Rattle.byte.proofs.Fill.{Filling, fill-start, fill-length, fill-room, fill-more, fill-done}
 use Rattle.byte.proofs.Writing.{written-short, after-short}
 use Rattle.byte.specs.Put.{written, after}
 use Rattle.percent.specs.Percent.{decoded}
-use Rattle.percent.proofs.Runs.{plain-step, slice-from}
-use Rattle.percent.proofs.Front.{rest-after, rest-written}
-use Rattle.percent.proofs.Laws.{stop}
-use Rattle.percent.proofs.decode.Statement.{statement}
-use Rattle.percent.proofs.decode.Tie as tie
+use Rattle.percent_decode.proofs.Front.{rest-after, rest-written}
+use Rattle.percent.proofs.Laws.{stop, plain-step, slice-from}
+use Rattle.percent_decode.proofs.decode.Statement.{statement}
+use Rattle.percent_decode.proofs.decode.Tie as tie
 
 abbrev Inv-loop : tie.InvT-loop
 Inv-loop src dst₀ at k₀ dst k = (at + length (decoded src) ≤ length dst₀) × Filling dst₀ at (decoded src) (decoded (drop k src)) dst k

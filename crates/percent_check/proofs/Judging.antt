@@ -9,8 +9,9 @@ use Rattle.utf8.specs.declared.State.{State}
 use Rattle.utf8.specs.Utf8.{wellFormed}
 use Rattle.utf8.specs.Bytewise.{startState, nextState, wholeState, stateAfter}
 use Rattle.utf8.proofs.Bytewise.{after-none, after-more, whole-after}
-use Rattle.percent.specs.Percent.{decoded, pieceAt, checked}
+use Rattle.percent.specs.Percent.{decoded, pieceAt}
+use Rattle.percent_check.specs.Plain.{checked}
 use Rattle.percent.proofs.Laws.{step, stop}
 
 module _ (s : List ℕ) (i : ℕ) (t : State) (so-far : stateAfter startState (decoded s) ≡ stateAfter t (decoded (drop i s))) where
   pub judged : i < length s → stateAfter startState (decoded s) ≡ stateAfter (nextState t (pieceAt s i .byte)) (decoded (drop (i + 1 + pieceAt s i .skip) s))

@@ -8,8 +8,8 @@ use native.Mathlib.Omega.{arith}
 use native.Mathlib.Numerals.{add-one}
 use native.Mathlib.Nat.{zero-add, add-zero}
 use lib.Dec.{eqb, leb}
-use lib.ListN.{length, take, drop, getD, drop-of-length-le, length-drop}
-use lib.Seq.{drop-cons, drop-drop, take-all}
+use lib.ListN.{length, take, drop, getD, drop-of-length-le}
+use lib.Seq.{drop-cons, drop-drop}
 use borrow.Author.Tests.{eqb-true, eqb-false, leb-false, lt-leb, ne-eqb}
 use Rattle.byte.specs.Byte.{pick, partOf}
 use Rattle.byte.proofs.Parts.{part-is, part-short}
@@ -17,28 +17,16 @@ use Rattle.split.specs.Split.{firstAt}
 use Rattle.split.proofs.Split.{first-end}
 use Rattle.utf8.specs.Utf8.{wellFormed, wellFrom}
 use Rattle.utf8.proofs.Bytewise.{cut-well}
-use Rattle.percent.specs.declared.Checked.{Checked}
-use Rattle.percent.specs.declared.Piece.{Piece}
-use Rattle.percent.specs.Percent.{pieceAt, decoded, checked}
-use Rattle.percent.specs.Plain.{endsPlain, plainUntil, checkedOn, checkedUntil}
-use Rattle.percent.proofs.Laws.{other, step, stop}
+use Rattle.percent_check.specs.declared.Checked.{Checked}
+use Rattle.percent.specs.Percent.{pieceAt, decoded}
+use Rattle.percent_check.specs.Plain.{checked, endsPlain, plainUntil, checkedOn, checkedUntil}
+use Rattle.percent.proofs.Laws.{step, stop}
 use Rattle.percent.proofs.Rules.{other-stays}
 
 -- an ASCII byte in front leaves it open whether a text is UTF-8
 pub ascii-front : (a : ℕ) (u : List ℕ) → a < 128 → wellFormed (a ∷ u) ≡ wellFormed u
 unfolding wellFrom
 ascii-front a u h = cut-well [] a u h
-
--- a byte that is no `%` stands for itself at its place
-pub plain-step : (s : List ℕ) (i : ℕ) → i < length s → (getD s i 0 ≡ 37 → ⊥) → decoded (drop i s) ≡ getD s i 0 ∷ decoded (drop (i + 1) s)
-plain-step s i h n =
-    step s i h
-    ∙ ap (λ (p : Piece). p .byte ∷ decoded (drop (i + 1 + p .skip) s)) (other s i n)
-    ∙ ap (λ (k : ℕ). getD s i 0 ∷ decoded (drop k s)) (add-zero (i + 1))
-
--- the text from a place on, as a slice has it
-pub slice-from : (s : List ℕ) (i : ℕ) → take (length s - i) (drop i s) ≡ drop i s
-slice-from s i = take-all (length s - i) (drop i s) (omega (arith, length-drop i s))
 
 -- a scan that counts on while the pieces are ASCII: a turn, and the end
 module _ (n : ℕ) (s : List ℕ) (i : ℕ) where

@@ -1,9 +1,9 @@
 -- `check_until` meets its contract: a part that is plain is told by the laws of runs, and any other is read on from there. Assumes nothing.
 use mathlib.Core.Path.{sym, _∙_}
 use borrow.Author.Needs.{needs}
-use Rattle.percent.proofs.Runs.{until-plain, until-more}
-use Rattle.percent.proofs.check_until.Statement.{statement}
-use Rattle.percent.proofs.check_until.Tie as tie
+use Rattle.percent_check.proofs.Runs.{until-plain, until-more}
+use Rattle.percent_check.proofs.check_until.Statement.{statement}
+use Rattle.percent_check.proofs.check_until.Tie as tie
 
 plain-until-requires : tie.Need-plain-until-requires
 plain-until-requires c κs = search needs

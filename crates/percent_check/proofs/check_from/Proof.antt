@@ -4,14 +4,15 @@ use Prim.Native.Nat.{_+_, _-_, _≤_, _<_}
 use lib.ListN.{length, drop, length-drop}
 use borrow.Author.Needs.{needs}
 use native.Mathlib.Omega.{arith}
 use Rattle.percent.specs.declared.Piece.{Piece}
-use Rattle.percent.specs.Percent.{pieceAt, checked}
-use Rattle.percent.specs.declared.Checked.{Checked}
-use Rattle.percent.specs.Plain.{checkedOn}
-use Rattle.percent.proofs.Runs.{on-more, on-end, slice-from}
-use Rattle.percent.proofs.Laws.{small, shorter}
-use Rattle.percent.proofs.check_from.Statement.{statement}
-use Rattle.percent.proofs.check_from.Tie as tie
+use Rattle.percent.specs.Percent.{pieceAt}
+use Rattle.percent_check.specs.Plain.{checked}
+use Rattle.percent_check.specs.declared.Checked.{Checked}
+use Rattle.percent_check.specs.Plain.{checkedOn}
+use Rattle.percent_check.proofs.Runs.{on-more, on-end}
+use Rattle.percent.proofs.Laws.{small, shorter, slice-from}
+use Rattle.percent_check.proofs.check_from.Statement.{statement}
+use Rattle.percent_check.proofs.check_from.Tie as tie
 
 abbrev Inv-loop : tie.InvT-loop
 Inv-loop s from len₀ i₀ len i = (checkedOn from from s ≡ checkedOn len i s) × (len ≤ i)

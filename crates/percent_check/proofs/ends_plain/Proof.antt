@@ -1,8 +1,8 @@
 -- `ends_plain` meets its contract: the tests of the code are the tests of the definition. Assumes nothing.
 use Rattle.byte.proofs.Tests.{tests}
-use Rattle.percent.specs.Plain.{endsPlain}
-use Rattle.percent.proofs.ends_plain.Statement.{statement}
-use Rattle.percent.proofs.ends_plain.Tie as tie
+use Rattle.percent_check.specs.Plain.{endsPlain}
+use Rattle.percent_check.proofs.ends_plain.Statement.{statement}
+use Rattle.percent_check.proofs.ends_plain.Tie as tie
 
 returns : tie.Need-returns
 unfolding endsPlain

@@ -4,10 +4,10 @@ use Prim.Native.Nat.{_+_, _-_}
 use mathlib.Core.Path.{_≡_, refl, sym, _∙_}
 use native.Mathlib.Omega.{arith}
 use lib.ListN.{length, drop}
-use Rattle.percent.specs.Plain.{plainUntil}
-use Rattle.percent.proofs.Runs.{run-here, run-on, run-end}
-use Rattle.percent.proofs.plain_until.Statement.{statement}
-use Rattle.percent.proofs.plain_until.Tie as tie
+use Rattle.percent_check.specs.Plain.{plainUntil}
+use Rattle.percent_check.proofs.Runs.{run-here, run-on, run-end}
+use Rattle.percent_check.proofs.plain_until.Statement.{statement}
+use Rattle.percent_check.proofs.plain_until.Tie as tie
 
 abbrev Inv-loop : tie.InvT-loop
 Inv-loop s from stop i₀ i = from + plainUntil stop (drop from s) ≡ i + plainUntil stop (drop i s)

@@ -1,9 +1,9 @@
 -- `check` meets its contract: the plain bytes are told by their laws. Assumes nothing.
 use mathlib.Core.Path.{_∙_}
 use borrow.Author.Needs.{needs}
-use Rattle.percent.proofs.Runs.{whole-plain, whole-more}
-use Rattle.percent.proofs.check.Statement.{statement}
-use Rattle.percent.proofs.check.Tie as tie
+use Rattle.percent_check.proofs.Runs.{whole-plain, whole-more}
+use Rattle.percent_check.proofs.check.Statement.{statement}
+use Rattle.percent_check.proofs.check.Tie as tie
 
 plain-until-requires : tie.Need-plain-until-requires
 plain-until-requires c κs = search needs

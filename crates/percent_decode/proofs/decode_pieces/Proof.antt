@@ -8,10 +8,10 @@ use borrow.Author.Tests.{leb-true, leb-false, not-true, not-false}
 use lib.ListN.{length, drop}
 use Rattle.byte.proofs.Writing.{written-short, after-short}
 use Rattle.byte.proofs.Fill.{Filling, fill-start, fill-length, fill-room, fill-more, fill-done}
 use Rattle.percent.specs.Percent.{decoded}
 use Rattle.percent.proofs.Laws.{small, step, stop}
-use Rattle.percent.proofs.decode_pieces.Statement.{statement}
-use Rattle.percent.proofs.decode_pieces.Tie as tie
+use Rattle.percent_decode.proofs.decode_pieces.Statement.{statement}
+use Rattle.percent_decode.proofs.decode_pieces.Tie as tie
 
 abbrev Inv-loop : tie.InvT-loop
 Inv-loop src dst₀ at k₀ i₀ dst k i = (at + length (decoded src) ≤ length dst₀) × Filling dst₀ at (decoded src) (decoded (drop i src)) dst k

@@ -1,9 +1,9 @@
 -- `stops_at` meets its contract: nothing is left, or the byte there decides. Assumes nothing.
 use native.Mathlib.Omega.{arith}
 use borrow.Author.Needs.{needs}
-use Rattle.percent.proofs.Runs.{stop-end, stop-byte}
-use Rattle.percent.proofs.stops_at.Statement.{statement}
-use Rattle.percent.proofs.stops_at.Tie as tie
+use Rattle.percent_check.proofs.Runs.{stop-end, stop-byte}
+use Rattle.percent_check.proofs.stops_at.Statement.{statement}
+use Rattle.percent_check.proofs.stops_at.Tie as tie
 
 returns : tie.Need-returns
 returns c = let a = c .before .args in stop-end (a .stop) (a .s .now) (a .at) (omega arith)

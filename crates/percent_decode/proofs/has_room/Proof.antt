@@ -5,11 +5,11 @@ use native.Mathlib.Omega.{arith}
 use lib.Dec.{leb}
 use lib.ListN.{length}
 use borrow.Author.Tests.{le-leb, leb-true}
 use Rattle.percent.specs.Percent.{decoded}
 use Rattle.percent.proofs.Laws.{shorter}
 use borrow.Author.Needs.{needs}
-use Rattle.percent.proofs.has_room.Statement.{statement}
-use Rattle.percent.proofs.has_room.Tie as tie
+use Rattle.percent_decode.proofs.has_room.Statement.{statement}
+use Rattle.percent_decode.proofs.has_room.Tie as tie
 
 has-room-requires : tie.Need-has-room-requires
 has-room-requires c κs = search needs
