@@ -53,11 +53,16 @@ fn all_digits(s: &[u8], from: usize, base: u8) -> bool
     true
 }
 
-// Whether `v` with the digit `d` behind it stays within `max`, told without a product that could wrap.
+// Whether `v` with the digit `d` behind it stays within `max`, told without a product that could wrap. The first test divides the same two numbers
+// at each digit, so that a compiler divides once, and only the digits at the end of the range go further.
 fn stays(v: u64, base: u64, d: u64, max: u64) -> bool
     requires { ⌜ 0 < base ⌝ }
+    requires { ⌜ d < base ⌝ }
     ensures { λ r. ⌜ r ≡ leb (v * base + d) max ⌝ }
 {
+    if v < max / base {
+        return true;
+    }
     if max < d {
         return false;
     }
