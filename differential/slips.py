@@ -292,7 +292,7 @@ fn last_at_sign(s: &[u8], at: usize) -> usize {
         ("url", "    c[at] == b':'\n", "    true\n"),
     ]),
     ("second_prefix_forgotten", [
-        ("names", "if starts_with(s, 34) {", "if starts_with(s, 33) {"),
+        ("names", "if has_long_prefix(s) {", "if has_short_prefix(s) {"),
     ]),
     # percent decoding, UTF-8
     ("plus_decoded_to_a_blank", [

@@ -7,7 +7,7 @@ ghost use lib.ListN.{length, getD, take, drop};
 ghost use Rattle.byte.specs.Byte.{pick};
 ghost use Rattle.byte.specs.Same.{same, standsAt};
 ghost use Rattle.byte.specs.Put.{written, after};
-ghost use Rattle.names.specs.Names.{fixed, starts, keyName, wordName};
+ghost use Rattle.names.specs.Names.{fixed, starts, prefixes, keyName, wordName};
 ghost use Rattle.names.specs.Find.{numberIn, keyNumber, wordNumber, prefixLen};
 
 // The names of up to eight bytes, and the longer ones: keys, words, prefixes. Name i starts at start_of(i) in its table; key k is name k, name 0 is empty.
@@ -311,15 +311,27 @@ pub fn word_number(key: usize, s: &[u8]) -> usize
     }
 }
 
-// Whether `s` starts with name i.
-pub fn starts_with(s: &[u8], i: usize) -> bool
-    ensures { λ r. ⌜ r ≡ standsAt (getD fixed i []) 0 (now (s .entry)) ⌝ }
+// The prefixes each by itself, as the keys are.
+const SHORT_PREFIX: [u8; 11] = *b"postgres://";
+
+const LONG_PREFIX: [u8; 13] = *b"postgresql://";
+
+fn has_short_prefix(s: &[u8]) -> bool
+    ensures { λ r. ⌜ r ≡ standsAt (getD prefixes 0 []) 0 (now (s .entry)) ⌝ }
 {
-    let n = name_len(i);
-    if s.len() < n {
+    if s.len() < 11 {
         return false;
     }
-    is_name(&s[0..n], i)
+    byte::equals(&s[0..11], &SHORT_PREFIX)
+}
+
+fn has_long_prefix(s: &[u8]) -> bool
+    ensures { λ r. ⌜ r ≡ standsAt (getD prefixes 1 []) 0 (now (s .entry)) ⌝ }
+{
+    if s.len() < 13 {
+        return false;
+    }
+    byte::equals(&s[0..13], &LONG_PREFIX)
 }
 
 // The length of the prefix that makes a text a URI, or 0.
@@ -329,11 +341,11 @@ pub fn prefix_len(s: &[u8]) -> usize
     if byte::at(s, 0) != b'p' {
         return 0;
     }
-    if starts_with(s, 33) {
-        return name_len(33);
+    if has_short_prefix(s) {
+        return 11;
     }
-    if starts_with(s, 34) {
-        return name_len(34);
+    if has_long_prefix(s) {
+        return 13;
     }
     0
 }
