@@ -1,7 +1,7 @@
 -- Laws of looking a name up among others.
 -- Assumes nothing.
 use Prim.Native.Nat.{ℕ, _+_, _-_, _≤_, _<_}
-use mathlib.Core.Path.{_≡_, refl, sym, ap, _∙_}
+use mathlib.Core.Path.{_≡_, refl, sym}
 use mathlib.Core.Bool.{Bool, true, false}
 use mathlib.Core.List.{List, [], _∷_, _++_}
 use native.Mathlib.Omega.{arith}
@@ -53,16 +53,17 @@ pub number-found : (l : List (List ℕ)) (s : List ℕ) → (numberIn l s ≡ 0 
 unfolding numberIn
 number-found l s h = among-found 1 l s h
 
--- a text among the first names, and one that is not, looked up from a place on
-pub among-hit : (k : ℕ) (w : List ℕ) (l : List (List ℕ)) (s : List ℕ) → same s w ≡ true → among k (w ∷ l) s ≡ k
-unfolding among
-among-hit k w l s e = rw e
+-- two names and three, by the tests for them
+pub of-two : (v w s : List ℕ) (p q : Bool) → p ≡ same s v → q ≡ same s w → numberIn (v ∷ w ∷ []) s ≡ pick p 1 (pick q 2 0)
+unfolding numberIn among
+of-two v w s p q e f = rw (e, f)
 
-pub among-miss : (k : ℕ) (w : List ℕ) (l : List (List ℕ)) (s : List ℕ) → same s w ≡ false → among k (w ∷ l) s ≡ among (k + 1) l s
-unfolding among
-among-miss k w l s e = rw e
+pub of-three : (u v w s : List ℕ) (o p q : Bool) → o ≡ same s u → p ≡ same s v → q ≡ same s w
+    → numberIn (u ∷ v ∷ w ∷ []) s ≡ pick o 1 (pick p 2 (pick q 3 0))
+unfolding numberIn among
+of-three u v w s o p q d e f = rw (d, e, f)
 
-pub among-none : (k : ℕ) (s : List ℕ) → among k [] s ≡ 0
+among-none : (k : ℕ) (s : List ℕ) → among k [] s ≡ 0
 unfolding among
 among-none k s = refl
 

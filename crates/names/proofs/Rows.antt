@@ -6,9 +6,8 @@ use mathlib.Core.Bool.{Bool, true, false, _&&_, _||_}
 use mathlib.Core.List.{List, [], _∷_}
 use native.Mathlib.Omega.{arith}
 use lib.Dec.{leb, eqb}
-use lib.ListN.{length, drop, take, getD, List·getD-eq-default, drop-of-length-le}
-use lib.Seq.{drop-cons, take-nil, getD-take, getD-drop}
-use native.Mathlib.Numerals.{add-one}
+use lib.ListN.{length, drop, take, getD, List·getD-eq-default}
+use lib.Seq.{getD-take, getD-drop}
 use borrow.Author.Tests.{le-leb, lt-leb, leb-true, leb-false, eqb-true, eqb-false}
 use Rattle.byte.specs.Ascii.{bytes}
 use Rattle.byte.specs.Byte.{pick}
@@ -23,20 +22,6 @@ use Rattle.names.specs.Names.{fixed, starts, keyNames, keyName, wordName
 pub beyond : (k : ℕ) → 35 ≤ k → getD fixed k [] ≡ []
 unfolding fixed
 beyond k h = List·getD-eq-default fixed [] h
-
--- the names from place i on, up to the place e
-pub cut : (i e : ℕ) → i < e → i < 35 → take (e - i) (drop i fixed) ≡ getD fixed i [] ∷ take (e - (i + 1)) (drop (i + 1) fixed)
-unfolding fixed
-cut i e h l =
-    let n : e - i ≡ suc (e - (i + 1)) = omega arith in
-    rw (n, add-one, drop-cons fixed i [] l)
-
-pub cut-none : (i e : ℕ) → e ≤ i → take (e - i) (drop i fixed) ≡ []
-cut-none i e h = let n : e - i ≡ 0 = omega arith in rw n
-
-pub cut-beyond : (i e : ℕ) → 35 ≤ i → take (e - i) (drop i fixed) ≡ []
-unfolding fixed
-cut-beyond i e h = rw (drop-of-length-le fixed h) (take-nil (e - i))
 
 -- the words of each key: where they start and end in the table
 unfoldable pub wordsFrom : List ℕ
@@ -70,29 +55,18 @@ is-run k = alike (take (getD wordsEnd k 0 - getD wordsFrom k 0) (drop (getD word
 is-counted : ℕ → Bool
 is-counted k = eqb (length (wordsOf k)) (getD wordsEnd k 0 - getD wordsFrom k 0)
 
-is-ordered : ℕ → Bool
-is-ordered k = leb (getD wordsFrom k 0) (getD wordsEnd k 0) && leb (getD wordsEnd k 0) 35
-
 module _ (k : ℕ) (h : k < 20) where
   pub key : getD fixed k [] ≡ keyName k
   unfolding is-key same fixed keyName
   key = same-true _ _ (holds-at 20 is-key refl k h)
 
-  pub words-run : take (getD wordsEnd k 0 - getD wordsFrom k 0) (drop (getD wordsFrom k 0) fixed) ≡ wordsOf k
+  words-run : take (getD wordsEnd k 0 - getD wordsFrom k 0) (drop (getD wordsFrom k 0) fixed) ≡ wordsOf k
   unfolding is-run alike same fixed wordsOf wordsFrom wordsEnd
   words-run = alike-true _ _ (holds-at 20 is-run refl k h)
 
   words-counted : length (wordsOf k) ≡ getD wordsEnd k 0 - getD wordsFrom k 0
   unfolding is-counted wordsOf wordsFrom wordsEnd
   words-counted = eqb-true _ _ (holds-at 20 is-counted refl k h)
-
-  pub words-ordered : getD wordsFrom k 0 ≤ getD wordsEnd k 0
-  unfolding is-ordered wordsFrom wordsEnd
-  words-ordered = leb-true _ _ (and-left _ _ (holds-at 20 is-ordered refl k h))
-
-  pub words-within : getD wordsEnd k 0 ≤ 35
-  unfolding is-ordered wordsFrom wordsEnd
-  words-within = leb-true _ _ (and-right (leb (getD wordsFrom k 0) (getD wordsEnd k 0)) _ (holds-at 20 is-ordered refl k h))
 
   -- word w of the key, and one that it has not
   pub word : (w : ℕ) → (w ≡ 0 → ⊥) → w ≤ getD wordsEnd k 0 - getD wordsFrom k 0 → getD fixed (getD wordsFrom k 0 + (w - 1)) [] ≡ wordName k w

@@ -1,13 +1,13 @@
-// Every fixed byte string in two tables, compared with a lent text and written from it.
+// Every fixed byte string: each by itself, compared with a lent text, and in two tables, from which it is written.
 ghost use mathlib.Core.Path.{_≡_};
 ghost use mathlib.Core.List.{[]};
 ghost use Prim.Native.Nat.{_+_, _-_, _≤_};
 ghost use lib.Dec.{eqb, leb};
-ghost use lib.ListN.{length, getD, take, drop};
+ghost use lib.ListN.{length, getD};
 ghost use Rattle.byte.specs.Byte.{pick};
 ghost use Rattle.byte.specs.Same.{same, standsAt};
 ghost use Rattle.byte.specs.Put.{written, after};
-ghost use Rattle.names.specs.Names.{fixed, starts, prefixes, keyName, wordName};
+ghost use Rattle.names.specs.Names.{fixed, starts, prefixes, sslModeWords, sslNegotiationWords, targetSessionAttrsWords, loadBalanceHostsWords, keyName, wordName};
 ghost use Rattle.names.specs.Find.{numberIn, keyNumber, wordNumber, prefixLen};
 
 // The names of up to eight bytes, and the longer ones: keys, words, prefixes. Name i starts at start_of(i) in its table; key k is name k, name 0 is empty.
@@ -119,23 +119,6 @@ fn is_name(s: &[u8], i: usize) -> bool
     }
     let names = LONG;
     byte::equals(s, &names[a..e])
-}
-
-// Which of the names from `first` up to `end` is `s`, counted from 1, or 0.
-pub fn find(s: &[u8], first: usize, end: usize) -> usize
-    ensures { λ r. ⌜ r ≡ numberIn (take (end - first) (drop first fixed)) (now (s .entry)) ⌝ }
-{
-    let mut i = first;
-    while i < end {
-        if 35 <= i {
-            return 0;
-        }
-        if is_name(s, i) {
-            return i - first + 1;
-        }
-        i += 1;
-    }
-    0
 }
 
 // The one key that `s` may be, told by its first two bytes and its length; 0 where it is none for sure.
@@ -297,16 +280,93 @@ pub fn key_number(s: &[u8]) -> usize
     if is_short_key(s, key) { key } else { 0 }
 }
 
+// The words each by itself, as the keys are.
+const DISABLE: [u8; 7] = *b"disable";
+
+const PREFER: [u8; 6] = *b"prefer";
+
+const REQUIRE: [u8; 7] = *b"require";
+
+const POSTGRES: [u8; 8] = *b"postgres";
+
+const DIRECT: [u8; 6] = *b"direct";
+
+const ANY: [u8; 3] = *b"any";
+
+const READ_WRITE: [u8; 10] = *b"read-write";
+
+const READ_ONLY: [u8; 9] = *b"read-only";
+
+const RANDOM: [u8; 6] = *b"random";
+
+// The number of a word of sslmode, or 0; channel_binding has the same words.
+fn mode_number(s: &[u8]) -> usize
+    ensures { λ r. ⌜ r ≡ numberIn sslModeWords (now (s .entry)) ⌝ }
+{
+    if byte::equals(s, &DISABLE) {
+        return 1;
+    }
+    if byte::equals(s, &PREFER) {
+        return 2;
+    }
+    if byte::equals(s, &REQUIRE) {
+        return 3;
+    }
+    0
+}
+
+// The number of a word of sslnegotiation, or 0.
+fn negotiation_number(s: &[u8]) -> usize
+    ensures { λ r. ⌜ r ≡ numberIn sslNegotiationWords (now (s .entry)) ⌝ }
+{
+    if byte::equals(s, &POSTGRES) {
+        return 1;
+    }
+    if byte::equals(s, &DIRECT) {
+        return 2;
+    }
+    0
+}
+
+// The number of a word of target_session_attrs, or 0.
+fn target_number(s: &[u8]) -> usize
+    ensures { λ r. ⌜ r ≡ numberIn targetSessionAttrsWords (now (s .entry)) ⌝ }
+{
+    if byte::equals(s, &ANY) {
+        return 1;
+    }
+    if byte::equals(s, &READ_WRITE) {
+        return 2;
+    }
+    if byte::equals(s, &READ_ONLY) {
+        return 3;
+    }
+    0
+}
+
+// The number of a word of load_balance_hosts, or 0.
+fn balance_number(s: &[u8]) -> usize
+    ensures { λ r. ⌜ r ≡ numberIn loadBalanceHostsWords (now (s .entry)) ⌝ }
+{
+    if byte::equals(s, &DISABLE) {
+        return 1;
+    }
+    if byte::equals(s, &RANDOM) {
+        return 2;
+    }
+    0
+}
+
 // The number of a word of the key, or 0.
 pub fn word_number(key: usize, s: &[u8]) -> usize
     ensures { λ r. ⌜ r ≡ wordNumber key (now (s .entry)) ⌝ }
 {
     match key {
-        6 => find(s, 20, 23),
-        7 => find(s, 23, 25),
-        17 => find(s, 25, 28),
-        18 => find(s, 28, 31),
-        19 => find(s, 31, 33),
+        6 => mode_number(s),
+        7 => negotiation_number(s),
+        17 => target_number(s),
+        18 => mode_number(s),
+        19 => balance_number(s),
         _ => 0,
     }
 }

@@ -1,0 +1,44 @@
+-- `balance_number` meets its contract: one comparison a word. Assumes nothing.
+use mathlib.Core.Path.{refl, sym, _∙_}
+use mathlib.Core.Bool.{true, false}
+use Rattle.names.proofs.Among.{of-two}
+use borrow.Author.Needs.{needs}
+use Rattle.names.proofs.balance_number.Statement.{statement}
+use Rattle.names.proofs.balance_number.Tie as tie
+
+slice-aggregate-equals : tie.Need-slice-aggregate-equals
+slice-aggregate-equals c = search needs
+
+equals-requires : tie.Need-equals-requires
+equals-requires c κs = search needs
+
+returns : tie.Need-returns
+returns c = sym (of-two _ _ _ true _ (sym (c .if1 .taken) ∙ c .before .equals .ensures) refl)
+
+slice-aggregate-equals-2 : tie.Need-slice-aggregate-equals-2
+slice-aggregate-equals-2 c = search needs
+
+equals-requires-2 : tie.Need-equals-requires-2
+equals-requires-2 c κs = search needs
+
+returns-2 : tie.Need-returns-2
+returns-2 c =
+    let a = c .before .before .before in
+    sym (of-two _ _ _ false true (sym (a .if1 .left) ∙ a .before .equals .ensures) (sym (c .if2 .taken) ∙ c .before .equals2 .ensures))
+
+returns-3 : tie.Need-returns-3
+returns-3 c =
+    let a = c .before .before .before in
+    sym (of-two _ _ _ false false (sym (a .if1 .left) ∙ a .before .equals .ensures) (sym (c .if2 .left) ∙ c .before .equals2 .ensures))
+
+pub balance-number-spec : {M : Type 1} → statement M
+balance-number-spec =
+    tie.close
+    (tie.spec
+    slice-aggregate-equals
+    equals-requires
+    returns
+    slice-aggregate-equals-2
+    equals-requires-2
+    returns-2
+    returns-3)
