@@ -1,6 +1,1 @@
-pub mod Arms
-pub mod Among
-pub mod Rows
-pub mod Examples
-pub mod Told
 pub mod Prefix

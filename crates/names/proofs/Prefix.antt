@@ -13,7 +13,7 @@ use Rattle.byte.specs.Byte.{pick}
 use Rattle.byte.specs.Same.{same, standsAt}
 use Rattle.byte.proofs.Laws.{and-false}
 use Rattle.byte.proofs.Same.{stands-room, stands-short}
-use Rattle.names.specs.Find.{prefixLen, startLen}
+use Rattle.name_table.specs.Find.{prefixLen, startLen}
 
 abbrev longer : Bool → Bool → ℕ
 longer p q = pick p 11 (pick q 13 0)

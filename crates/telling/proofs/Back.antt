@@ -14,7 +14,7 @@ use Rattle.byte.specs.Digit.{digitOf}
 use Rattle.byte.proofs.Laws.{and-left, and-right}
 use Rattle.names.specs.Names.{wordName, wordsOf}
 use Rattle.names.specs.Find.{wordNumber}
-use Rattle.names.proofs.Examples.{word-own}
+use Rattle.name_table.proofs.Examples.{word-own}
 use Rattle.number.specs.Digits.{allDigits, valueIn}
 use Rattle.number.proofs.Digits.{value-nil, value-last, all-digits-cons}
 use Rattle.split.specs.Split.{firstAt, split}

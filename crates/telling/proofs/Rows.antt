@@ -13,7 +13,7 @@ use borrow.Author.Tests.{eq-eqb, ne-eqb}
 use Rattle.byte.specs.Byte.{pick}
 use Rattle.names.specs.Names.{keyName}
 use Rattle.names.specs.Find.{keyNumber}
-use Rattle.names.proofs.Examples.{key-own, no-empty}
+use Rattle.name_table.proofs.Examples.{key-own, no-empty}
 use Rattle.split.specs.Split.{firstAt, split}
 use Rattle.split.proofs.Split.{Free, free-nil, free-cons, split-first, split-free, split-behind, first-most, behind}
 use Rattle.draw.specs.Parts.{joined}

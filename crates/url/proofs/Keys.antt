@@ -18,8 +18,8 @@ use Rattle.byte.proofs.Parts.{part-is, part-empty}
 use Rattle.byte.proofs.Writing.{written-room, after-room, after-short, part-put}
 use Rattle.names.specs.Names.{keyNames}
 use Rattle.names.specs.Find.{keyNumber, numberIn, among}
-use Rattle.names.proofs.Among.{Found, number-found}
-use Rattle.names.proofs.Examples.{no-empty}
+use Rattle.name_table.proofs.Among.{Found, number-found}
+use Rattle.name_table.proofs.Examples.{no-empty}
 use Rattle.utf8.specs.Utf8.{wellFormed, wellFrom, charAt, charOf, longer, two, three, four, least, greatest}
 use Rattle.percent.specs.Percent.{pieceOf, pieceAt, decodedFrom, decoded}
 use Rattle.setting.specs.Setting.{Setting, keyed, oneHost, kindOf}

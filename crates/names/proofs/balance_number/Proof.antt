@@ -1,7 +1,7 @@
 -- `balance_number` meets its contract: one comparison a word. Assumes nothing.
 use mathlib.Core.Path.{refl, sym, _∙_}
 use mathlib.Core.Bool.{true, false}
-use Rattle.names.proofs.Among.{of-two}
+use Rattle.name_table.proofs.Among.{of-two}
 use borrow.Author.Needs.{needs}
 use Rattle.names.proofs.balance_number.Statement.{statement}
 use Rattle.names.proofs.balance_number.Tie as tie

@@ -1,5 +1,5 @@
 use mathlib.Core.Path.{sym, _∙_}
-use Rattle.names.proofs.Rows.{key, no-key, no-name-zero}
+use Rattle.name_table.proofs.Rows.{key, no-key, no-name-zero}
 use Rattle.names.proofs.key_place.Statement.{statement}
 use Rattle.names.proofs.key_place.Tie as tie
 

@@ -1,7 +1,7 @@
 -- `mode_number` meets its contract: one comparison a word. Assumes nothing.
 use mathlib.Core.Path.{refl, sym, _∙_}
 use mathlib.Core.Bool.{true, false}
-use Rattle.names.proofs.Among.{of-three}
+use Rattle.name_table.proofs.Among.{of-three}
 use borrow.Author.Needs.{needs}
 use Rattle.names.proofs.mode_number.Statement.{statement}
 use Rattle.names.proofs.mode_number.Tie as tie

@@ -5,8 +5,8 @@ use Prim.Native.Nat.{ℕ}
 use lib.ListN.{getD}
 use Rattle.byte.specs.Byte.{pick}
 use Rattle.byte.specs.Same.{standsAt}
-use Rattle.names.specs.Names.{prefixes}
-use Rattle.names.specs.Find.{prefixLen, startLen}
+use Rattle.name_table.specs.Names.{prefixes}
+use Rattle.name_table.specs.Find.{prefixLen, startLen}
 use Rattle.names.proofs.Prefix.{no-prefix}
 use borrow.Author.Needs.{needs}
 use Rattle.names.proofs.prefix_len.Statement.{statement}

@@ -2,10 +2,10 @@
 use Prim.Native.Nat.{ℕ}
 use mathlib.Core.Path.{_≡_, sym}
 use mathlib.Core.List.{List, []}
-use Rattle.names.specs.Names.{wordsOf}
-use Rattle.names.specs.Find.{wordNumber}
-use Rattle.names.proofs.Among.{number-none}
-use Rattle.names.proofs.Rows.{wordless}
+use Rattle.name_table.specs.Names.{wordsOf}
+use Rattle.name_table.specs.Find.{wordNumber}
+use Rattle.name_table.proofs.Among.{number-none}
+use Rattle.name_table.proofs.Rows.{wordless}
 use borrow.Author.Needs.{needs}
 use Rattle.names.proofs.word_number.Statement.{statement}
 use Rattle.names.proofs.word_number.Tie as tie

@@ -1,7 +1,7 @@
 -- `word_place` meets its contract: the words of each key that takes one are a run of the names. Assumes nothing.
 use mathlib.Core.Path.{sym, _∙_}
 use native.Mathlib.Omega.{arith}
-use Rattle.names.proofs.Rows.{wordsFrom, wordsEnd, placed, wordless, no-word-of, no-name-zero}
+use Rattle.name_table.proofs.Rows.{wordsFrom, wordsEnd, placed, wordless, no-word-of, no-name-zero}
 use borrow.Author.Needs.{needs}
 use Rattle.names.proofs.word_place.Statement.{statement}
 use Rattle.names.proofs.word_place.Tie as tie

@@ -1,0 +1,4 @@
+pub mod Arms
+pub mod Among
+pub mod Rows
+pub mod Examples
