@@ -24,25 +24,25 @@ fn take(name: &[u8], a: Answer) -> Config {
 }
 
 fn set_ssl(c: Config) -> Config {
-    let a = take(b"ssl_mode", setters::ssl_mode(c, SslMode::Require));
+    let a = take(b"ssl_mode", word_setters::ssl_mode(c, SslMode::Require));
     take(
         b"ssl_negotiation",
-        setters::ssl_negotiation(a, SslNegotiation::Direct),
+        word_setters::ssl_negotiation(a, SslNegotiation::Direct),
     )
 }
 
 fn set_words(c: Config) -> Config {
     let a = take(
         b"target_session_attrs",
-        setters::target_session_attrs(c, TargetSessionAttrs::ReadWrite),
+        word_setters::target_session_attrs(c, TargetSessionAttrs::ReadWrite),
     );
     let b = take(
         b"channel_binding",
-        setters::channel_binding(a, ChannelBinding::Disable),
+        word_setters::channel_binding(a, ChannelBinding::Disable),
     );
     take(
         b"load_balance_hosts",
-        setters::load_balance_hosts(b, LoadBalanceHosts::Random),
+        word_setters::load_balance_hosts(b, LoadBalanceHosts::Random),
     )
 }
 
@@ -62,8 +62,8 @@ fn set_probes(c: Config) -> Config {
 fn set_lists(c: Config) -> Config {
     let kind = Kind::V6(0, 1);
     let loopback = Address { kind: kind };
-    let a = take(b"hostaddr", setters::hostaddr(c, loopback));
-    take(b"port", setters::port(a, 5433))
+    let a = take(b"hostaddr", list_setters::hostaddr(c, loopback));
+    take(b"port", list_setters::port(a, 5433))
 }
 
 // The same in place: each lends its record to the setter.

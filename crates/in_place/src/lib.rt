@@ -7,7 +7,7 @@ use config::Config;
 pub fn set_port(c: &mut Config, port: u16) -> usize
     ensures { λ r. ⌜ (r ≡ set 10 (number port) (now (c .entry)) .number) × (now (c .exit) ≡ set 10 (number port) (now (c .entry)) .config) ⌝ }
 {
-    let a = setters::port(*c, port);
+    let a = list_setters::port(*c, port);
     *c = a.config;
     a.number
 }

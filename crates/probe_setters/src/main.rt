@@ -108,20 +108,20 @@ fn port_of(k: Call) -> u16 {
 fn call_word(c: Config, k: Call) -> Answer {
     let key = k.key;
     match key {
-        6 => setters::ssl_mode(c, mode_of(k.word)),
-        7 => setters::ssl_negotiation(c, negotiation_of(k.word)),
+        6 => word_setters::ssl_mode(c, mode_of(k.word)),
+        7 => word_setters::ssl_negotiation(c, negotiation_of(k.word)),
         13 => setters::keepalives(c, 0 < k.word),
-        17 => setters::target_session_attrs(c, target_of(k.word)),
-        18 => setters::channel_binding(c, binding_of(k.word)),
-        _ => setters::load_balance_hosts(c, balance_of(k.word)),
+        17 => word_setters::target_session_attrs(c, target_of(k.word)),
+        18 => word_setters::channel_binding(c, binding_of(k.word)),
+        _ => word_setters::load_balance_hosts(c, balance_of(k.word)),
     }
 }
 
 fn call_number(c: Config, k: Call) -> Answer {
     let key = k.key;
     match key {
-        9 => setters::hostaddr(c, address_of(k)),
-        10 => setters::port(c, port_of(k)),
+        9 => list_setters::hostaddr(c, address_of(k)),
+        10 => list_setters::port(c, port_of(k)),
         11 => setters::connect_timeout(c, k.low),
         12 => setters::tcp_user_timeout(c, k.low),
         14 => setters::keepalives_idle(c, k.low),

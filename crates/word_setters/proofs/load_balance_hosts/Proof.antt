@@ -1,10 +1,10 @@
 use Rattle.setters.proofs.Answers.{unsound, stored}
 use Rattle.setters.specs.Setter.{room, changed}
 use borrow.Author.Tests.{not-true, not-false}
 use mathlib.Core.Path.{refl, sym, _∙_}
 use borrow.Author.Needs.{needs}
-use Rattle.setters.proofs.load_balance_hosts.Statement.{statement}
-use Rattle.setters.proofs.load_balance_hosts.Tie as tie
+use Rattle.word_setters.proofs.load_balance_hosts.Statement.{statement}
+use Rattle.word_setters.proofs.load_balance_hosts.Tie as tie
 
 counts-in-requires : tie.Need-counts-in-requires
 counts-in-requires c κs = search needs
