@@ -38,7 +38,7 @@ SLIPS = [
         ("reader", "    if kind == 20 {\n        return lists::add_host(", "    if kind == 20 {\n        return lists::add_hosts("),
     ]),
     ("character_behind_backslash_dropped", [
-        ("keyvalue", "{ at + 1 } else { at }", "{ at + 2 } else { at }"),
+        ("backslash", "{ at + 1 } else { at }", "{ at + 2 } else { at }"),
     ]),
     ("syntax_judged_before_the_first_setting", [
         ("reader", "    let first = Config::new();\n", """\
@@ -61,7 +61,7 @@ SLIPS = [
 """),
     ]),
     ("only_ascii_white_space", [
-        ("keyvalue", "    space::is_space(code)\n", """\
+        ("scan", "    space::is_space(code)\n", """\
     if 127 < code {
         return false;
     }
@@ -215,14 +215,14 @@ fn closed_up(h: Hosts, first: usize) -> Hosts {
         ("keyvalue", "        let next = quote + 1;\n", """\
         let next = quote + 1;
         if next < s.len() {
-            if !starts_space(s, next) {
+            if !scan::starts_space(s, next) {
                 return Step::Refused(6);
             }
         }
 """),
     ]),
     ("value_right_behind_equals_only", [
-        ("keyvalue", "let start = skip_ws(s, sign + 1);", "let start = sign + 1;"),
+        ("keyvalue", "let start = scan::skip_ws(s, sign + 1);", "let start = sign + 1;"),
     ]),
     ("empty_quotes_refused", [
         ("keyvalue", "        let quote = value.to;\n", """\
@@ -233,7 +233,7 @@ fn closed_up(h: Hosts, first: usize) -> Hosts {
 """),
     ]),
     ("last_backslash_adds_itself", [
-        ("keyvalue", "    if byte::at(s, at) == b'\\\\' { at + 1 } else { at }\n", """\
+        ("backslash", "    if byte::at(s, at) == b'\\\\' { at + 1 } else { at }\n", """\
     if byte::at(s, at) != b'\\\\' {
         return at;
     }

@@ -21,7 +21,7 @@ use Rattle.space.specs.Space.{isSpace}
 use Rattle.space.proofs.Marks.{nul}
 use Rattle.keyvalue.specs.Scan.{runFrom, run, startsSpace, spaceLen, endsKey, keyLen, pieceLen, until, startsQuote, simpleLen, quotedLen}
 use Rattle.keyvalue.specs.KeyValue.{unescapedFrom, unescaped}
-use Rattle.keyvalue.proofs.Runs.{run-stop, run-more}
+use Rattle.scan.proofs.Runs.{run-stop, run-more}
 
 -- the same rules on code points: "Skip white space; a key runs to white space or `=`."
 unfoldable pub spaceChars : List ℕ → List ℕ

@@ -1,5 +1,3 @@
-pub mod Runs
-pub mod Rules
 pub mod Pieces
 pub mod Steps
 pub mod Stands

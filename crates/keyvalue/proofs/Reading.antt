@@ -19,7 +19,7 @@ use Rattle.keyvalue.specs.declared.Step.{Step}
 use Rattle.keyvalue.specs.declared.Step.the-variants.{Done, Refused, Found}
 use Rattle.keyvalue.specs.Scan.{runFrom, endOf, part, spaceLen, keyLen, quotedLen, simpleLen}
 use Rattle.keyvalue.specs.KeyValue.{unescaped, keyOf, rawAt, quotedAt, simpleAt, valueAt, signAt, keyAt, parameterAt, reads, keyValueFrom, keyValue}
-use Rattle.keyvalue.proofs.Runs.{end-shift}
+use Rattle.scan.proofs.Runs.{end-shift}
 use Rattle.keyvalue.proofs.Stands.{stands}
 
 -- places counted from a place on

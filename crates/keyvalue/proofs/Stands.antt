@@ -18,8 +18,8 @@ use Rattle.keyvalue.specs.declared.Step.{Step}
 use Rattle.keyvalue.specs.declared.Step.the-variants.{Done, Refused, Found}
 use Rattle.keyvalue.specs.Scan.{endOf, part, spaceLen, keyLen, quotedLen, simpleLen}
 use Rattle.keyvalue.specs.KeyValue.{unescaped, keyOf, rawAt, quotedAt, simpleAt, valueAt, signAt, keyAt, parameterAt}
-use Rattle.keyvalue.proofs.Runs.{end-within}
-use Rattle.keyvalue.proofs.Pieces.{shorter}
+use Rattle.scan.proofs.Runs.{end-within}
+use Rattle.backslash.proofs.Pieces.{shorter}
 
 -- a value from a place on
 record Valued (s : List ℕ) (at : ℕ) (value : Raw) (next : ℕ) : Type 0 where

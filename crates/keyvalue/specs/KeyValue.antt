@@ -1,7 +1,6 @@
 -- The key-value reading of document 01, section "A reading".
 -- Assumes nothing.
 use Prim.Native.Nat.{ℕ, zero, suc, _+_, _-_}
-use mathlib.Core.Bool.{Bool, true, false}
 use mathlib.Core.List.{List, [], _∷_}
 use lib.Dec.{leb, eqb}
 use lib.ListN.{length, getD}
@@ -12,17 +11,9 @@ use Rattle.keyvalue.specs.declared.Key.{Key}
 use Rattle.keyvalue.specs.declared.Raw.{Raw}
 use Rattle.keyvalue.specs.declared.Step.{Step}
 use Rattle.keyvalue.specs.declared.Step.the-variants.{Done, Refused, Found}
+unfoldable pub use Rattle.backslash.specs.Backslash.{unescapedFrom}
+pub use Rattle.backslash.specs.Backslash.{unescaped}
 use Rattle.keyvalue.specs.Scan.{endOf, part, spaceLen, keyLen, quotedLen, simpleLen}
-
--- "A backslash adds the next character, whatever it is; as the last thing in the text it adds nothing."
--- What a value comes to, where the flag tells whether a backslash stands before it
-unfoldable pub unescapedFrom : Bool → List ℕ → List ℕ
-unescapedFrom behind [] = []
-unescapedFrom true (a ∷ s) = a ∷ unescapedFrom false s
-unescapedFrom false (a ∷ s) = pick (eqb a 92) (unescapedFrom true s) (a ∷ unescapedFrom false s)
-
-abbrev pub unescaped : List ℕ → List ℕ
-unescaped s = unescapedFrom false s
 
 -- where a key stands, and its number
 abbrev pub keyOf : List ℕ → ℕ → ℕ → Key

@@ -1,13 +1,13 @@
 -- `quoted_value` meets its contract: goes by pieces until a quote stands there, by the laws of a loop that does so. Assumes nothing.
 use Rattle.keyvalue.specs.Scan.{startsQuote}
-use Rattle.keyvalue.proofs.Rules.{at-quote, no-quote}
 use borrow.Author.Needs.{needs}
 use mathlib.Core.Path.{_≡_}
 use mathlib.Core.Bool.{false}
 use Prim.Native.Nat.{_+_, _-_}
 use native.Mathlib.Omega.{arith}
 use lib.ListN.{length, drop}
-use Rattle.keyvalue.proofs.Pieces.{Scanning, scan-start, scan-turn, scan-stop, scan-last, scan-past, gained-from}
+use Rattle.backslash.proofs.Pieces.{gained-from}
+use Rattle.keyvalue.proofs.Pieces.{at-quote, no-quote, Scanning, scan-start, scan-turn, scan-stop, scan-last, scan-past}
 use Rattle.keyvalue.proofs.quoted_value.Statement.{statement}
 use Rattle.keyvalue.proofs.quoted_value.Tie as tie
 

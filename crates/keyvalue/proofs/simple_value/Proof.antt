@@ -6,7 +6,8 @@ use mathlib.Core.Bool.{false}
 use Prim.Native.Nat.{_+_, _-_}
 use native.Mathlib.Omega.{arith}
 use lib.ListN.{length, drop}
-use Rattle.keyvalue.proofs.Pieces.{Scanning, scan-start, scan-plain, scan-turn, scan-stop, scan-last, scan-past, gained-from}
+use Rattle.backslash.proofs.Pieces.{gained-from}
+use Rattle.keyvalue.proofs.Pieces.{Scanning, scan-start, scan-plain, scan-turn, scan-stop, scan-last, scan-past}
 use Rattle.keyvalue.proofs.simple_value.Statement.{statement}
 use Rattle.keyvalue.proofs.simple_value.Tie as tie
 

@@ -6,7 +6,7 @@ use lib.ListN.{length}
 use borrow.Author.Tests.{not-false}
 use Rattle.keyvalue.specs.Scan.{startsSpace, simpleLen}
 use Rattle.keyvalue.specs.KeyValue.{rawAt}
-use Rattle.keyvalue.proofs.Rules.{glance}
+use Rattle.scan.proofs.Rules.{glance}
 use Rattle.keyvalue.proofs.Pieces.{Plain, plain-turn}
 use borrow.Author.Needs.{needs}
 use Rattle.keyvalue.proofs.skip_plain.Statement.{statement}
