@@ -392,7 +392,7 @@ fn last_at_sign(s: &[u8], at: usize) -> usize {
     ]),
     # the report
     ("password_shown", [
-        ("report", "fields::put_secret(2, c.password, dst, user)", "fields::put_text(2, c.password, decode, dst, user)"),
+        ("report_lines", "fields::put_secret(2, c.password, dst, user)", "fields::put_text(2, c.password, decode, dst, user)"),
     ]),
     ("escapes_in_lower_case", [
         ("decimal", "put_fixed(b as u64, 16, true, 2, dst, at)", "put_fixed(b as u64, 16, false, 2, dst, at)"),

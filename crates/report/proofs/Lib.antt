@@ -1,4 +1,3 @@
-pub mod Groups
 pub mod Most
 pub mod Told
 pub mod Exactly

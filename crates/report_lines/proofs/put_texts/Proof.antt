@@ -1,8 +1,8 @@
 use Rattle.draw.proofs.Drawing.{drawn-keeps}
-use Rattle.report.proofs.Groups.{texts-drawn}
+use Rattle.report_lines.proofs.Groups.{texts-drawn}
 use borrow.Author.Needs.{needs}
-use Rattle.report.proofs.put_texts.Statement.{statement}
-use Rattle.report.proofs.put_texts.Tie as tie
+use Rattle.report_lines.proofs.put_texts.Statement.{statement}
+use Rattle.report_lines.proofs.put_texts.Tie as tie
 
 put-text-requires : tie.Need-put-text-requires
 put-text-requires c κs = search needs

@@ -1,8 +1,8 @@
-use Rattle.report.proofs.Groups.{times-drawn}
+use Rattle.report_lines.proofs.Groups.{times-drawn}
 use Rattle.draw.proofs.Drawing.{drawn-keeps}
 use borrow.Author.Needs.{needs}
-use Rattle.report.proofs.put_times.Statement.{statement}
-use Rattle.report.proofs.put_times.Tie as tie
+use Rattle.report_lines.proofs.put_times.Statement.{statement}
+use Rattle.report_lines.proofs.put_times.Tie as tie
 
 put-seconds-requires : tie.Need-put-seconds-requires
 put-seconds-requires c κs = search needs

@@ -14,7 +14,7 @@ use Rattle.config.specs.declared.Config.{Config}
 use Rattle.config.specs.Values.{textShown, hostsShown, addressesShown, portsShown, secondsShown, retriesShown, shown}
 use Rattle.fields.specs.Field.{modeNumber, negotiationNumber, targetNumber, bindingNumber, balanceNumber, optional, namedHost, switchValue}
 use Rattle.fields.proofs.Steps.{flag-shown}
-use Rattle.report.specs.Report.{values}
+use Rattle.report_lines.specs.Values.{values}
 
 -- a word by the number that the code tells
 pub word-drawn : (key : ℕ) (s t : Sheet) (m n : ℕ) → m ≡ n → t ≡ drawn s (line key (wordValue key m)) → t ≡ drawn s (lines key (wordValue key n ∷ []))

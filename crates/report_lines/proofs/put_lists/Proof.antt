@@ -1,8 +1,8 @@
 use Rattle.draw.proofs.Drawing.{drawn-keeps}
-use Rattle.report.proofs.Groups.{lists-drawn}
+use Rattle.report_lines.proofs.Groups.{lists-drawn}
 use borrow.Author.Needs.{needs}
-use Rattle.report.proofs.put_lists.Statement.{statement}
-use Rattle.report.proofs.put_lists.Tie as tie
+use Rattle.report_lines.proofs.put_lists.Statement.{statement}
+use Rattle.report_lines.proofs.put_lists.Tie as tie
 
 mode-number-requires : tie.Need-mode-number-requires
 mode-number-requires c κs = search needs

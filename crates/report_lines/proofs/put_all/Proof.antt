@@ -1,8 +1,8 @@
 use Rattle.draw.proofs.Drawing.{drawn-keeps}
-use Rattle.report.proofs.Groups.{all-drawn}
+use Rattle.report_lines.proofs.Groups.{all-drawn}
 use borrow.Author.Needs.{needs}
-use Rattle.report.proofs.put_all.Statement.{statement}
-use Rattle.report.proofs.put_all.Tie as tie
+use Rattle.report_lines.proofs.put_all.Statement.{statement}
+use Rattle.report_lines.proofs.put_all.Tie as tie
 
 put-texts-requires : tie.Need-put-texts-requires
 put-texts-requires c κs = search needs

@@ -1,8 +1,8 @@
 use Rattle.draw.proofs.Drawing.{drawn-keeps}
-use Rattle.report.proofs.Groups.{words-drawn}
+use Rattle.report_lines.proofs.Groups.{words-drawn}
 use borrow.Author.Needs.{needs}
-use Rattle.report.proofs.put_words.Statement.{statement}
-use Rattle.report.proofs.put_words.Tie as tie
+use Rattle.report_lines.proofs.put_words.Statement.{statement}
+use Rattle.report_lines.proofs.put_words.Tie as tie
 
 target-number-requires : tie.Need-target-number-requires
 target-number-requires c κs = search needs
