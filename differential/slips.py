@@ -286,7 +286,7 @@ fn last_at_sign(s: &[u8], at: usize) -> usize {
 """),
     ]),
     ("key_of_a_parameter_not_decoded", [
-        ("url", "let n = percent_decode::decode(key, &mut name, 0);", "let n = byte::copy(key, &mut name, 0);"),
+        ("uri_keys", "let n = percent_decode::decode(key, &mut name, 0);", "let n = byte::copy(key, &mut name, 0);"),
     ]),
     ("anything_behind_a_bracket_taken", [
         ("url", "    c[at] == b':'\n", "    true\n"),

@@ -26,7 +26,7 @@ use Rattle.config.specs.declared.Config.{Config}
 use Rattle.apply.specs.Apply.{wordFault, numberFault, secondsIn, faults, faultOf, applied}
 use Rattle.apply.proofs.Laws.{applied-fault}
 use Rattle.setting.specs.Setting.{Setting, kindOf}
-use Rattle.url.proofs.Keys.{setting-most}
+use Rattle.uri_keys.proofs.Keys.{setting-most}
 use Rattle.demands.specs.Giving.{Reason, unknown-key, value, hosts, one-host, hostaddrs, ports}
 
 abbrev Given : Config → List ℕ → ℕ → Fault → Type 0

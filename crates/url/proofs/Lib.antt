@@ -1,5 +1,4 @@
 pub mod Places
-pub mod Keys
 pub mod Branches
 pub mod Judged
 pub mod PlainHost

@@ -32,7 +32,7 @@ use Rattle.url.specs.declared.HostPlace.{HostPlace}
 use Rattle.url.specs.Uri.{has, upTo, beyond, firstOf, text, hostFits, host, value, parameter, parameters, params, dbname, database, path, port, chunk, endsHosts, hostChunks, hosts, password, credentials, uri}
 use Rattle.url.specs.Step.{url, found, give, skipped, hostChecked, paramKind, keyKind, valueStep, keyStep, parameterStep, paramsStep, databaseStep, pathStep, endsChunk, chunkEnd, behindChunk, fixedPort, portStep, hostPlace, placedStep, chunkStep, hostStep, passwordStep, userEnd, credentialsStep, stageStep, stepAt, valueIn, portAndOn, stageReading, readingFrom}
 use Rattle.url.proofs.Places.{front-byte, part-front, part-shift, part-take, drop-take, drop-skipped, skip-from, skip-within, of-most, first-drop}
-use Rattle.url.proofs.Keys.{key-most, kind-most, setting-most, user-one, password-two, dbname-three, port-ten}
+use Rattle.uri_keys.proofs.Keys.{key-most, kind-most, setting-most, user-one, password-two, dbname-three, port-ten}
 use Rattle.url.proofs.Branches.{place-from, place-to, place-tail}
 use Rattle.url.proofs.Chunks.{behindOne, chunks-first, chunk-placed, port-rest}
 use Rattle.url.proofs.Parameters.{paramLen, parameters-none, parameters-first}

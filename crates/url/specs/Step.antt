@@ -7,14 +7,12 @@ use lib.Dec.{eqb, ltb, leb}
 use lib.ListN.{length, take, drop, getD}
 use Rattle.byte.specs.Ascii.{bytes}
 use Rattle.byte.specs.Byte.{pick, partOf}
-use Rattle.byte.specs.Same.{same}
-use Rattle.names.specs.Find.{keyNumber}
 use Rattle.split.specs.Split.{firstAt}
-use Rattle.utf8.specs.Utf8.{wellFormed}
 use Rattle.percent_check.specs.declared.Checked.{Checked}
 use Rattle.percent.specs.Percent.{decoded}
 use Rattle.percent_check.specs.Plain.{checked}
 use Rattle.setting.specs.Setting.{Reading}
+unfoldable pub use Rattle.uri_keys.specs.Kind.{paramKind, keyKind}
 use Rattle.url.specs.declared.Stage.{Stage}
 use Rattle.url.specs.declared.Stage.the-variants.{Credentials, Password, Host, Chunk, Port, Path, Params, Parameter}
 use Rattle.url.specs.declared.Url.{Url}
@@ -42,14 +40,6 @@ skipped at t = pick (ltb 0 (length t)) (at + 1) at
 -- a host: a Unix path may be any bytes
 abbrev pub hostChecked : List ℕ → Checked
 hostChecked v = record { len = length (decoded v); utf8 = hostFits (decoded v) }
-
--- the kind that a key gives: one host from a URI is 20
-unfoldable pub paramKind : List ℕ → ℕ
-paramKind k = pick (same k (bytes "host")) 20 (keyNumber k)
-
--- and 21 for a key that is not UTF-8
-unfoldable pub keyKind : List ℕ → ℕ
-keyKind k = pick (wellFormed k) (paramKind k) 21
 
 abbrev pub valueChecked : ℕ → List ℕ → Checked
 valueChecked kind v = pick (eqb kind 20) (hostChecked v) (checked v)

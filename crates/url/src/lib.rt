@@ -4,9 +4,8 @@ ghost use Prim.Native.Nat.{_+_};
 ghost use lib.Dec.{eqb};
 ghost use lib.ListN.{drop};
 ghost use Rattle.byte.specs.Put.{written, after};
-ghost use Rattle.percent.specs.Percent.{decoded};
 ghost use Rattle.url.specs.Uri.{firstOf, endsHosts, closes};
-ghost use Rattle.url.specs.Step.{endsChunk, endsHost, endsPlainHost, url, give, skipped, credentialsStep, passwordStep, hostStep, chunkStep, portStep, pathStep, databaseStep, paramsStep, parameterStep, valueStep, hostPlace, hostChecked, paramKind, keyKind, behindChunk, stepAt, valueIn};
+ghost use Rattle.url.specs.Step.{endsChunk, endsHost, endsPlainHost, url, give, skipped, credentialsStep, passwordStep, hostStep, chunkStep, portStep, pathStep, databaseStep, paramsStep, parameterStep, valueStep, hostPlace, hostChecked, behindChunk, stepAt, valueIn};
 
 // What stands at the place that is read next.
 pub enum Stage {
@@ -60,8 +59,6 @@ const USER: usize = 1;
 const PASSWORD: usize = 2;
 
 const DBNAME: usize = 3;
-
-const HOST_KEY: usize = 8;
 
 const PORT: usize = 10;
 
@@ -473,7 +470,7 @@ fn parse_parameter(s: &[u8], at: usize) -> UrlStep
     if s.len() <= end {
         return UrlStep::Ended(NO_EQUALS);
     }
-    let kind = parse_key(byte::part(s, at, end));
+    let kind = uri_keys::parse_key(byte::part(s, at, end));
     if kind == NO_KEY {
         return UrlStep::Ended(NOT_UTF8);
     }
@@ -507,40 +504,4 @@ fn parse_one_host(s: &[u8], at: usize) -> UrlStep
         at: skip(s, end),
     };
     decode(ONE_HOST, at, end, judged, next)
-}
-
-// The kind that a key gives, or 21 where it is not UTF-8 once decoded. The known keys are, so that they are read once.
-fn parse_key(key: &[u8]) -> usize
-    ensures { λ r. ⌜ r ≡ keyKind (decoded (now (key .entry))) ⌝ }
-{
-    let kind = param_kind(key);
-    if kind != 0 {
-        return kind;
-    }
-    let c = percent_check::check(key);
-    if c.utf8 { 0 } else { NO_KEY }
-}
-
-// The kind of a setting with this key. A known key has no `%`, so that it is looked up as it stands first.
-fn param_kind(key: &[u8]) -> usize
-    ensures { λ r. ⌜ r ≡ paramKind (decoded (now (key .entry))) ⌝ }
-{
-    let known = names::key_number(key);
-    if known == HOST_KEY {
-        return ONE_HOST;
-    }
-    if known != 0 {
-        return known;
-    }
-    decoded_kind(key)
-}
-
-// The same of the key decoded: no key is longer than 20 bytes, and one that is too long to be decoded here has no number.
-fn decoded_kind(key: &[u8]) -> usize
-    ensures { λ r. ⌜ r ≡ paramKind (decoded (now (key .entry))) ⌝ }
-{
-    let mut name = [0u8; 20];
-    let n = percent_decode::decode(key, &mut name, 0);
-    let number = names::key_number(byte::part(&name, 0, n));
-    if number == HOST_KEY { ONE_HOST } else { number }
 }

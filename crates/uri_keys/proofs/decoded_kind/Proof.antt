@@ -3,10 +3,10 @@
 use mathlib.Core.Path.{_≡_, sym, ap, _∙_}
 use Rattle.names.specs.Find.{keyNumber}
 use Rattle.percent.specs.Percent.{decoded}
-use Rattle.url.proofs.Keys.{looked-up, kind-host, kind-other}
+use Rattle.uri_keys.proofs.Keys.{looked-up, kind-host, kind-other}
 use borrow.Author.Needs.{needs}
-use Rattle.url.proofs.decoded_kind.Statement.{statement}
-use Rattle.url.proofs.decoded_kind.Tie as tie
+use Rattle.uri_keys.proofs.decoded_kind.Statement.{statement}
+use Rattle.uri_keys.proofs.decoded_kind.Tie as tie
 
 slice-aggregate-decode : tie.Need-slice-aggregate-decode
 slice-aggregate-decode c = search needs

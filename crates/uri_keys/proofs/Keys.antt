@@ -23,7 +23,7 @@ use Rattle.name_table.proofs.Examples.{no-empty}
 use Rattle.utf8.specs.Utf8.{wellFormed, wellFrom, charAt, charOf, longer, two, three, four, least, greatest}
 use Rattle.percent.specs.Percent.{pieceOf, pieceAt, decodedFrom, decoded}
 use Rattle.setting.specs.Setting.{Setting, keyed, oneHost, kindOf}
-use Rattle.url.specs.Step.{paramKind, keyKind}
+use Rattle.uri_keys.specs.Kind.{paramKind, keyKind}
 
 -- a key that has a number is the one that the number says
 pub key-found : (k : List ℕ) → (keyNumber k ≡ 0 → ⊥) → Found 1 keyNames k (keyNumber k)

@@ -2,10 +2,10 @@
 -- Assumes nothing.
 use mathlib.Core.Path.{sym, ap, _∙_}
 use Rattle.percent_check.specs.declared.Checked.{Checked}
-use Rattle.url.proofs.Keys.{kind-known, kind-utf8, kind-broken}
+use Rattle.uri_keys.proofs.Keys.{kind-known, kind-utf8, kind-broken}
 use borrow.Author.Needs.{needs}
-use Rattle.url.proofs.parse_key.Statement.{statement}
-use Rattle.url.proofs.parse_key.Tie as tie
+use Rattle.uri_keys.proofs.parse_key.Statement.{statement}
+use Rattle.uri_keys.proofs.parse_key.Tie as tie
 
 param-kind-requires : tie.Need-param-kind-requires
 param-kind-requires c κs = search needs

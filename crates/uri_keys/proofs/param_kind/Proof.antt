@@ -1,10 +1,10 @@
 -- `url::param_kind` meets its contract: a known key is decoded already, and any other is looked up decoded.
 -- Assumes nothing.
 use mathlib.Core.Path.{sym, _∙_}
-use Rattle.url.proofs.Keys.{raw-host, raw-other}
+use Rattle.uri_keys.proofs.Keys.{raw-host, raw-other}
 use borrow.Author.Needs.{needs}
-use Rattle.url.proofs.param_kind.Statement.{statement}
-use Rattle.url.proofs.param_kind.Tie as tie
+use Rattle.uri_keys.proofs.param_kind.Statement.{statement}
+use Rattle.uri_keys.proofs.param_kind.Tie as tie
 
 key-number-requires : tie.Need-key-number-requires
 key-number-requires c κs = search needs
