@@ -405,13 +405,12 @@ fn kept(s: &Setting) -> &[u8] {
     }
 }
 
-/// Settings applied in order: number, key and count, and the report of the record that those before the refusal made.
+/// Settings applied in order: number, key and count, and the report of the record, which is the default one where a setting is refused.
 pub fn applied(list: &[Setting]) -> (u32, u32, usize, Vec<u8>) {
     let mut values = Values::new();
     for (count, s) in list.iter().enumerate() {
-        let before = values.0.clone();
         if let Err((number, key)) = values.apply(s) {
-            return (number, key, count, Values(before).report());
+            return (number, key, count, Values::new().report());
         }
     }
     (0, 0, list.len(), values.report())

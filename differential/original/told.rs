@@ -261,12 +261,11 @@ pub fn told(text: &[u8], room: usize) -> Told {
 pub type Setting<'a> = (Option<&'a str>, &'a [u8]);
 
 /// Settings applied one after the other by `Config::param`, one host as the URI parser does: number, key and count as for a text, and
-/// the report of the record that the settings before the refusal made. None where a value is not UTF-8 though it must be: the Rust
-/// can't be asked.
+/// the report of the record, which is the default one where a setting is refused, as it is for a text. None where a value is not UTF-8
+/// though it must be: the Rust can't be asked.
 pub fn applied(list: &[Setting]) -> Option<(u32, u32, usize, Vec<u8>)> {
     let mut walk = Walk::default();
     for (key, value) in list {
-        let before = walk.config.clone();
         let (kind, outcome) = match key {
             None if value.first() == Some(&b'/') => {
                 walk.config.host_path(OsStr::from_bytes(value));
@@ -279,7 +278,7 @@ pub fn applied(list: &[Setting]) -> Option<(u32, u32, usize, Vec<u8>)> {
             Some(key) => (kind_of(key.as_bytes()), walk.config.param(key, str::from_utf8(value).ok()?)),
         };
         if !walk.book(kind, value, outcome) || walk.full.is_some() {
-            walk.config = before;
+            walk.config = Config::new();
             break;
         }
     }

@@ -1,4 +1,3 @@
 pub mod Config
 pub mod Values
 pub mod Sound
-pub mod Plain

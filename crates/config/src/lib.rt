@@ -1,7 +1,6 @@
 // The record of a connection's settings: a field for each key, in key order.
 ghost use mathlib.Core.Path.{_≡_};
 ghost use Rattle.config.specs.Config.{defaults};
-ghost use Rattle.config.specs.Plain.{plainOf, joined};
 use address::Address;
 use address::Kind;
 use lists::Addresses;
@@ -105,26 +104,6 @@ pub struct Config {
     pub load_balance_hosts: LoadBalanceHostsWord,
 }
 
-// A record without its three lists: small, and without arrays, so that a loop can hold it in registers.
-pub struct Plain {
-    pub user: Text,
-    pub password: Text,
-    pub dbname: Text,
-    pub options: Text,
-    pub application_name: Text,
-    pub ssl_mode: SslModeWord,
-    pub ssl_negotiation: SslNegotiationWord,
-    pub connect_timeout: Seconds,
-    pub tcp_user_timeout: Seconds,
-    pub keepalives: bool,
-    pub keepalives_idle: u64,
-    pub keepalives_interval: Seconds,
-    pub keepalives_retries: Retries,
-    pub target_session_attrs: TargetSessionAttrsWord,
-    pub channel_binding: ChannelBindingWord,
-    pub load_balance_hosts: LoadBalanceHostsWord,
-}
-
 impl Config {
     // The defaults.
     pub fn new() -> Config
@@ -195,88 +174,5 @@ impl Config {
             channel_binding: binding,
             load_balance_hosts: balance,
         }
-    }
-}
-
-// What a record has beside its lists.
-pub fn plain_of(c: Config) -> Plain
-    ensures { λ r. ⌜ r ≡ plainOf c ⌝ }
-{
-    let user = c.user;
-    let password = c.password;
-    let dbname = c.dbname;
-    let options = c.options;
-    let application_name = c.application_name;
-    let ssl_mode = c.ssl_mode;
-    let ssl_negotiation = c.ssl_negotiation;
-    let connect_timeout = c.connect_timeout;
-    let tcp_user_timeout = c.tcp_user_timeout;
-    let keepalives = c.keepalives;
-    let keepalives_idle = c.keepalives_idle;
-    let keepalives_interval = c.keepalives_interval;
-    let keepalives_retries = c.keepalives_retries;
-    let target_session_attrs = c.target_session_attrs;
-    let channel_binding = c.channel_binding;
-    let load_balance_hosts = c.load_balance_hosts;
-    Plain {
-        user: user,
-        password: password,
-        dbname: dbname,
-        options: options,
-        application_name: application_name,
-        ssl_mode: ssl_mode,
-        ssl_negotiation: ssl_negotiation,
-        connect_timeout: connect_timeout,
-        tcp_user_timeout: tcp_user_timeout,
-        keepalives: keepalives,
-        keepalives_idle: keepalives_idle,
-        keepalives_interval: keepalives_interval,
-        keepalives_retries: keepalives_retries,
-        target_session_attrs: target_session_attrs,
-        channel_binding: channel_binding,
-        load_balance_hosts: load_balance_hosts,
-    }
-}
-
-// The whole record of both.
-pub fn join(p: Plain, host: Hosts, hostaddr: Addresses, port: Ports) -> Config
-    ensures { λ r. ⌜ r ≡ joined p host hostaddr port ⌝ }
-{
-    let user = p.user;
-    let password = p.password;
-    let dbname = p.dbname;
-    let options = p.options;
-    let application_name = p.application_name;
-    let ssl_mode = p.ssl_mode;
-    let ssl_negotiation = p.ssl_negotiation;
-    let connect_timeout = p.connect_timeout;
-    let tcp_user_timeout = p.tcp_user_timeout;
-    let keepalives = p.keepalives;
-    let keepalives_idle = p.keepalives_idle;
-    let keepalives_interval = p.keepalives_interval;
-    let keepalives_retries = p.keepalives_retries;
-    let target_session_attrs = p.target_session_attrs;
-    let channel_binding = p.channel_binding;
-    let load_balance_hosts = p.load_balance_hosts;
-    Config {
-        user: user,
-        password: password,
-        dbname: dbname,
-        options: options,
-        application_name: application_name,
-        ssl_mode: ssl_mode,
-        ssl_negotiation: ssl_negotiation,
-        host: host,
-        hostaddr: hostaddr,
-        port: port,
-        connect_timeout: connect_timeout,
-        tcp_user_timeout: tcp_user_timeout,
-        keepalives: keepalives,
-        keepalives_idle: keepalives_idle,
-        keepalives_interval: keepalives_interval,
-        keepalives_retries: keepalives_retries,
-        target_session_attrs: target_session_attrs,
-        channel_binding: channel_binding,
-        load_balance_hosts: load_balance_hosts,
     }
 }

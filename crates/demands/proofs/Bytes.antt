@@ -33,8 +33,8 @@ use Rattle.telling.specs.Bound.{All}
 use Rattle.telling.specs.Ranged.{Bytes}
 use Rattle.telling.proofs.Shown.{all-take, all-drop}
 use Rattle.reader.specs.Reader.{reading}
-use Rattle.reader.specs.Steps.{nextAt, valueAt}
-use Rattle.reader.proofs.Next.{from, measure, Next, next-found, next-ended}
+use Rattle.taking.specs.Taking.{nextAt, valueAt}
+use Rattle.taking.proofs.Next.{from, measure, Next, next-found, next-ended}
 
 -- what holds of both holds of the one that is picked
 pub picked : {A : Type 0} (p : A → Type 0) (t : Bool) (x y : A) → p x → p y → p (pick t x y)

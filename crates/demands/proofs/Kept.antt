@@ -21,9 +21,10 @@ use Rattle.url.specs.declared.UrlStep.the-variants.{Given, Ended}
 use Rattle.url.specs.Step.{url}
 use Rattle.url.specs.Uri.{uri}
 use Rattle.url.proofs.Reading.{reading-start, left-start}
-use Rattle.reader.specs.Reader.{reading, keeps, kept}
-use Rattle.reader.specs.Steps.{nextAt}
-use Rattle.reader.proofs.Next.{from, measure, Next, next-found, next-ended}
+use Rattle.taking.specs.Taking.{keeps}
+use Rattle.reader.specs.Reader.{reading, kept}
+use Rattle.taking.specs.Taking.{nextAt}
+use Rattle.taking.proofs.Next.{from, measure, Next, next-found, next-ended}
 use Rattle.demands.specs.Giving.{joined}
 
 -- what is kept of a setting: its value or nothing

@@ -26,7 +26,8 @@ use Rattle.view.specs.Given.{refused as refusedBy, given, Told, plain, tellRefu
 use Rattle.view.proofs.Seen.{In, defaults-in, in-on, in-sound, shown-grows, Packs, seen-fault, seen, still-in}
 use Rattle.view.proofs.Told.{told-end, told-on, told-off}
 use Rattle.reader.specs.declared.Answer.{Answer}
-use Rattle.reader.specs.Reader.{reading, keeps, kept, refusal, Outcome, refused, accepted, ended, outcome, outcomeOf, answer, filled, left}
+use Rattle.taking.specs.Taking.{keeps}
+use Rattle.reader.specs.Reader.{reading, kept, refusal, Outcome, refused, accepted, ended, outcome, outcomeOf, answer, filled, left}
 use Rattle.reader.proofs.Answers.{too-long, no-room, not-utf8, answered}
 use Rattle.demands.specs.Blind.{Readable, tells}
 

@@ -26,6 +26,8 @@ use Rattle.config.specs.declared.Config.{Config}
 use Rattle.config.specs.Config.{defaults}
 use Rattle.apply.specs.Apply.{applied}
 use Rattle.reader.specs.declared.Answer.{Answer}
+use Rattle.reader.specs.declared.Ending.{Ending}
+use Rattle.reader.specs.Ending.{endingOf}
 use Rattle.reader.specs.Reader.{reading, kept, refusal, Outcome, outcome, outcomeOf, answer}
 use Rattle.dock.proofs.Ends.{reading-end}
 
@@ -134,6 +136,17 @@ answer-small s room = by (ltb 4096 (length s)) refl
 
 pub small : (a : Answer) (s : List ℕ) (room : ℕ) → a ≡ answer s room → Small a
 small a s room e = subst Small (sym e) (answer-small s room)
+
+-- the same of an answer without its record
+pub record SmallEnding (e : Ending) : Type 0 where
+  pub number : e .number ≤ 15
+  pub key : e .key ≤ 20
+  pub count : e .count ≤ 8194
+
+pub small-ending : (e : Ending) (s : List ℕ) (room : ℕ) → e ≡ endingOf (answer s room) → SmallEnding e
+small-ending e s room is =
+    let a = answer-small s room in
+    subst SmallEnding (sym is) (record { number = a .number; key = a .key; count = a .count })
 
 -- an accepted text is within the limit
 accepted-short : (s : List ℕ) (room : ℕ) → answer s room .number ≡ 0 → length s ≤ 4096

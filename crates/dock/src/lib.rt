@@ -26,7 +26,7 @@ pub extern "C" fn nyimbrak_answer(text: &[u8], decode: &mut [u8]) -> u64
     ensures { λ r. ⌜ r ≡ inOne (answer (now (text .entry)) (length (now (decode .entry)))) ⌝ }
     ensures { λ _. ⌜ now (decode .exit) ≡ left (now (text .entry)) (now (decode .entry)) ⌝ }
 {
-    let a = reader::read(text, decode);
+    let a = reader::judge(text, decode);
     a.number as u64 + 256 * (a.key as u64) + 65536 * (a.count as u64)
 }
 

@@ -15,7 +15,8 @@ use Rattle.split.specs.Split.{onto, split}
 use Rattle.lists.specs.Append.{good}
 use Rattle.config.specs.Values.{HostValue, tcp, unix, Values}
 use Rattle.view.specs.Given.{entriesOf, hostValue, hostPieces, oneHostPiece, given}
-use Rattle.reader.specs.Reader.{keeps}
+use Rattle.taking.specs.Taking.{keeps}
+use Rattle.reader.specs.Reader.{}
 use Rattle.telling.specs.Bound.{nameBytes, hostBytes}
 use Rattle.limits.specs.Limits.{together, keptBytes}
 

@@ -1,248 +1,109 @@
-// One setting applied to a record: the keys whose values are kept, the lists, and `param`, which knows every key's number.
+// One setting applied to the rows that stand for a record, by the number of its key. The cells of each field stand in crate rows.
+// After a fault nothing is promised of the rows: the text is refused, and nobody reads them.
+ghost use Prim.Native.Nat.{ℕ, _+_, _≤_};
 ghost use mathlib.Core.Path.{_≡_};
-ghost use Prim.Native.Nat.{ℕ};
-ghost use mathlib.Core.Bool.{false};
+ghost use mathlib.Core.List.{List};
+ghost use lib.ListN.{length};
 ghost use Rattle.byte.specs.Byte.{partOf};
-ghost use Rattle.names.specs.Find.{keyNumber};
-ghost use Rattle.apply.specs.Apply.{text, applied};
-ghost use Rattle.apply.specs.Plain.{Applies, isList, AppliesPlain};
-use apply::Applied;
-use apply::AppliedPlain;
-use config::Config;
-use config::Plain;
-use config::Text;
+ghost use Rattle.apply.specs.Apply.{applied};
+ghost use Rattle.rows.specs.Rows.{configOf};
+ghost use Rattle.param.specs.Sets.{Sets};
 use lists::Fault;
-use lists::Place;
 
-// The text that a value sets: it is kept where it stands.
-fn text_at(v: &[u8], start: usize) -> Text
-    ensures { λ r. ⌜ r ≡ text start (now (v .entry)) ⌝ }
-{
-    let place = Place {
-        start: start,
-        len: v.len(),
-    };
-    Text {
-        set: true,
-        place: place,
-    }
-}
+// A row lent as a slice tells its length, which one behind a `&mut` does not: these say it, and do nothing.
+fn whole_fields(fields: &[usize])
+    requires { ⌜ length (now fields) ≡ 32 ⌝ }
+    ensures { λ _. ⌜ length (now (fields .entry)) ≡ 32 ⌝ }
+{}
 
-// Key 1, user.
-fn put_user(p: Plain, v: &[u8], start: usize) -> AppliedPlain
-    ensures { λ r. ⌜ Applies 1 (now (v .entry)) start p r ⌝ }
-{
-    let text = text_at(v, start);
-    let mut next = p;
-    next.user = text;
-    AppliedPlain {
-        fault: Fault::NoFault,
-        plain: next,
-    }
-}
+fn whole_fours(fours: &[u32])
+    requires { ⌜ length (now fours) ≡ 17 ⌝ }
+    ensures { λ _. ⌜ length (now (fours .entry)) ≡ 17 ⌝ }
+{}
 
-// Key 2, password.
-fn put_password(p: Plain, v: &[u8], start: usize) -> AppliedPlain
-    ensures { λ r. ⌜ Applies 2 (now (v .entry)) start p r ⌝ }
+// Key 8, host: the pieces of a value that stands from `start` on.
+fn put_hosts(fields: &mut [usize; 32], hosts: &mut [usize; 48], v: &[u8], start: usize) -> Fault
+    requires { ⌜ (length (now fields) ≡ 32) × (start + length (now v) ≤ 18446744073709551615) ⌝ }
+    ensures { λ r. ⌜ ((sixes fours ports : List ℕ) → Sets r (applied 8 (now (v .entry)) start (configOf (now (fields .entry)) (now (hosts .entry)) sixes fours ports)) (configOf (now (fields .exit)) (now (hosts .exit)) sixes fours ports)) ⌝ }
 {
-    let text = text_at(v, start);
-    let mut next = p;
-    next.password = text;
-    AppliedPlain {
-        fault: Fault::NoFault,
-        plain: next,
-    }
-}
-
-// Key 3, dbname.
-fn put_dbname(p: Plain, v: &[u8], start: usize) -> AppliedPlain
-    ensures { λ r. ⌜ Applies 3 (now (v .entry)) start p r ⌝ }
-{
-    let text = text_at(v, start);
-    let mut next = p;
-    next.dbname = text;
-    AppliedPlain {
-        fault: Fault::NoFault,
-        plain: next,
-    }
-}
-
-// Key 4, options.
-fn put_options(p: Plain, v: &[u8], start: usize) -> AppliedPlain
-    ensures { λ r. ⌜ Applies 4 (now (v .entry)) start p r ⌝ }
-{
-    let text = text_at(v, start);
-    let mut next = p;
-    next.options = text;
-    AppliedPlain {
-        fault: Fault::NoFault,
-        plain: next,
-    }
-}
-
-// Key 5, application_name.
-fn put_application_name(p: Plain, v: &[u8], start: usize) -> AppliedPlain
-    ensures { λ r. ⌜ Applies 5 (now (v .entry)) start p r ⌝ }
-{
-    let text = text_at(v, start);
-    let mut next = p;
-    next.application_name = text;
-    AppliedPlain {
-        fault: Fault::NoFault,
-        plain: next,
-    }
-}
-
-// Applies the setting of a kind to a record without its lists; the kinds of the lists are refused as unknown.
-pub fn param_plain(p: Plain, kind: usize, v: &[u8], start: usize) -> AppliedPlain
-    ensures { λ r. ⌜ AppliesPlain kind (now (v .entry)) start p r ⌝ }
-{
-    match kind {
-        1 => put_user(p, v, start),
-        2 => put_password(p, v, start),
-        3 => put_dbname(p, v, start),
-        4 => put_options(p, v, start),
-        5 => put_application_name(p, v, start),
-        6 => word_keys::put_ssl_mode(p, v),
-        7 => word_keys::put_ssl_negotiation(p, v),
-        11 => number_keys::put_connect_timeout(p, v),
-        12 => number_keys::put_tcp_user_timeout(p, v),
-        13 => number_keys::put_keepalives(p, v),
-        14 => number_keys::put_keepalives_idle(p, v),
-        15 => number_keys::put_keepalives_interval(p, v),
-        16 => number_keys::put_keepalives_retries(p, v),
-        17 => word_keys::put_target_session_attrs(p, v),
-        18 => word_keys::put_channel_binding(p, v),
-        19 => word_keys::put_load_balance_hosts(p, v),
-        _ => AppliedPlain {
-            fault: Fault::UnknownKey,
-            plain: p,
-        },
-    }
-}
-
-// Key 8, host: the pieces of the part of the buffer from `start` up to `end`.
-fn put_hosts(c: Config, buffer: &[u8], start: usize, end: usize) -> Applied
-    ensures { λ r. ⌜ r ≡ applied 8 (partOf start end (now (buffer .entry))) start c ⌝ }
-{
-    let old = c.host;
-    let more = lists::add_hosts(old, buffer, start, end);
-    let fault = more.fault;
-    if !lists::is_fine(fault) {
-        return Applied {
-            fault: fault,
-            config: c,
-        };
-    }
-    let hosts = more.hosts;
-    let mut next = c;
-    next.host = hosts;
-    Applied {
-        fault: Fault::NoFault,
-        config: next,
-    }
+    let a = row_lists::add_hosts(hosts, fields[29], v, start);
+    fields[29] = a.count;
+    a.fault
 }
 
 // One host from a URI, whose commas are its own.
-fn put_host(c: Config, buffer: &[u8], start: usize, end: usize) -> Applied
-    ensures { λ r. ⌜ r ≡ applied 20 (partOf start end (now (buffer .entry))) start c ⌝ }
+fn put_host(fields: &mut [usize; 32], hosts: &mut [usize; 48], v: &[u8], start: usize) -> Fault
+    requires { ⌜ length (now fields) ≡ 32 ⌝ }
+    ensures { λ r. ⌜ ((sixes fours ports : List ℕ) → Sets r (applied 20 (now (v .entry)) start (configOf (now (fields .entry)) (now (hosts .entry)) sixes fours ports)) (configOf (now (fields .exit)) (now (hosts .exit)) sixes fours ports)) ⌝ }
 {
-    let old = c.host;
-    let more = lists::add_host(old, buffer, start, end);
-    let fault = more.fault;
-    if !lists::is_fine(fault) {
-        return Applied {
-            fault: fault,
-            config: c,
-        };
-    }
-    let hosts = more.hosts;
-    let mut next = c;
-    next.host = hosts;
-    Applied {
-        fault: Fault::NoFault,
-        config: next,
-    }
+    let a = row_lists::add_host(hosts, fields[29], v, start);
+    fields[29] = a.count;
+    a.fault
 }
 
-// Key 9, hostaddr: the pieces between commas, of which nothing is kept, so the promise holds for whatever place they stand at.
-fn put_hostaddrs(c: Config, v: &[u8]) -> Applied
-    ensures { λ r. ⌜ ((start : ℕ) → r ≡ applied 9 (now (v .entry)) start c) ⌝ }
+// Key 9, hostaddr.
+fn put_hostaddrs(
+    fields: &mut [usize; 32],
+    sixes: &mut [u64; 48],
+    fours: &mut [u32; 17],
+    v: &[u8],
+) -> Fault
+    requires { ⌜ length (now fields) ≡ 32 ⌝ }
+    ensures { λ r. ⌜ ((hosts ports : List ℕ) (start : ℕ) → Sets r (applied 9 (now (v .entry)) start (configOf (now (fields .entry)) hosts (now (sixes .entry)) (now (fours .entry)) ports)) (configOf (now (fields .exit)) hosts (now (sixes .exit)) (now (fours .exit)) ports)) ⌝ }
 {
-    let old = c.hostaddr;
-    let more = lists::add_addresses(old, v);
-    let fault = more.fault;
-    if !lists::is_fine(fault) {
-        return Applied {
-            fault: fault,
-            config: c,
-        };
-    }
-    let addresses = more.addresses;
-    let mut next = c;
-    next.hostaddr = addresses;
-    Applied {
-        fault: Fault::NoFault,
-        config: next,
-    }
+    let a = row_lists::add_addresses(sixes, fours, fields[30], v);
+    fields[30] = a.count;
+    a.fault
 }
 
-// Key 10, port: the same of ports.
-fn put_ports(c: Config, v: &[u8]) -> Applied
-    ensures { λ r. ⌜ ((start : ℕ) → r ≡ applied 10 (now (v .entry)) start c) ⌝ }
+// Key 10, port.
+fn put_ports(fields: &mut [usize; 32], ports: &mut [u16; 16], v: &[u8]) -> Fault
+    requires { ⌜ length (now fields) ≡ 32 ⌝ }
+    ensures { λ r. ⌜ ((hosts sixes fours : List ℕ) (start : ℕ) → Sets r (applied 10 (now (v .entry)) start (configOf (now (fields .entry)) hosts sixes fours (now (ports .entry)))) (configOf (now (fields .exit)) hosts sixes fours (now (ports .exit)))) ⌝ }
 {
-    let old = c.port;
-    let more = lists::add_ports(old, v);
-    let fault = more.fault;
-    if !lists::is_fine(fault) {
-        return Applied {
-            fault: fault,
-            config: c,
-        };
-    }
-    let ports = more.ports;
-    let mut next = c;
-    next.port = ports;
-    Applied {
-        fault: Fault::NoFault,
-        config: next,
-    }
-}
-
-// A setting that changes no list, applied to the whole record.
-fn put_plain(c: Config, kind: usize, v: &[u8], start: usize) -> Applied
-    ensures { λ r. ⌜ (isList kind ≡ false → r ≡ applied kind (now (v .entry)) start c) ⌝ }
-{
-    let a = param_plain(config::plain_of(c), kind, v, start);
-    let fault = a.fault;
-    let plain = a.plain;
-    let host = c.host;
-    let hostaddr = c.hostaddr;
-    let port = c.port;
-    let config = config::join(plain, host, hostaddr, port);
-    Applied {
-        fault: fault,
-        config: config,
-    }
+    let a = row_lists::add_ports(ports, fields[31], v);
+    fields[31] = a.count;
+    a.fault
 }
 
 // Applies the setting of a kind (1 to 19 its key, 20 one host from a URI) whose value is the part of the buffer from `start` up to `end`.
-pub fn param(c: Config, kind: usize, buffer: &[u8], start: usize, end: usize) -> Applied
-    ensures { λ r. ⌜ r ≡ applied kind (partOf start end (now (buffer .entry))) start c ⌝ }
+pub fn param(
+    fields: &mut [usize; 32],
+    hosts: &mut [usize; 48],
+    sixes: &mut [u64; 48],
+    fours: &mut [u32; 17],
+    ports: &mut [u16; 16],
+    kind: usize,
+    buffer: &[u8],
+    start: usize,
+    end: usize,
+) -> Fault
+    ensures { λ r. ⌜ Sets r (applied kind (partOf start end (now (buffer .entry))) start (configOf (now (fields .entry)) (now (hosts .entry)) (now (sixes .entry)) (now (fours .entry)) (now (ports .entry)))) (configOf (now (fields .exit)) (now (hosts .exit)) (now (sixes .exit)) (now (fours .exit)) (now (ports .exit))) ⌝ }
 {
+    whole_fields(fields);
+    whole_fours(fours);
     let v = byte::part(buffer, start, end);
     match kind {
-        8 => put_hosts(c, buffer, start, end),
-        9 => put_hostaddrs(c, v),
-        10 => put_ports(c, v),
-        20 => put_host(c, buffer, start, end),
-        _ => put_plain(c, kind, v, start),
+        1 => field_keys::put_text(fields, 0, start, v.len()),
+        2 => field_keys::put_text(fields, 3, start, v.len()),
+        3 => field_keys::put_text(fields, 6, start, v.len()),
+        4 => field_keys::put_text(fields, 9, start, v.len()),
+        5 => field_keys::put_text(fields, 12, start, v.len()),
+        6 => field_keys::put_word(fields, 15, 6, v),
+        7 => field_keys::put_word(fields, 16, 7, v),
+        8 => put_hosts(fields, hosts, v, start),
+        9 => put_hostaddrs(fields, sixes, fours, v),
+        10 => put_ports(fields, ports, v),
+        11 => field_keys::put_time(fields, 20, v),
+        12 => field_keys::put_time(fields, 22, v),
+        13 => field_keys::put_keepalives(fields, v),
+        14 => field_keys::put_idle(fields, v),
+        15 => field_keys::put_time(fields, 24, v),
+        16 => field_keys::put_retries(fields, fours, v),
+        17 => field_keys::put_word(fields, 17, 17, v),
+        18 => field_keys::put_word(fields, 18, 18, v),
+        19 => field_keys::put_word(fields, 19, 19, v),
+        20 => put_host(fields, hosts, v, start),
+        _ => Fault::UnknownKey,
     }
-}
-
-// Applies the setting of a key by its name.
-pub fn param_named(c: Config, key: &[u8], buffer: &[u8], start: usize, end: usize) -> Applied
-    ensures { λ r. ⌜ r ≡ applied (keyNumber (now (key .entry))) (partOf start end (now (buffer .entry))) start c ⌝ }
-{
-    param(c, names::key_number(key), buffer, start, end)
 }

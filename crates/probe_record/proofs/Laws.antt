@@ -3,29 +3,28 @@
 use Prim.Native.Nat.{ℕ, zero, suc, _+_, _-_, _≤_, _<_}
 use mathlib.Core.Path.{_≡_, refl, sym, ap, _∙_}
 use mathlib.Core.Bool.{Bool, true, false}
-use mathlib.Core.List.{List}
+use mathlib.Core.List.{List, [], _∷_}
 use native.Mathlib.Omega.{arith}
-use lib.ListN.{getD}
+use lib.Dec.{eqb, ltb}
+use lib.ListN.{getD, replicate}
 use borrow.Author.Tests.{eq-eqb, ne-eqb, lt-ltb, le-ltb}
 use Rattle.byte.specs.Byte.{pick, partOf}
 use Rattle.names.specs.Find.{keyNumber}
+use Rattle.lists.specs.declared.Fault.{Fault}
+use Rattle.lists.specs.declared.Fault.the-variants.{NoFault, UnknownKey, Word, Form, Range, NoAddress, ManyHosts, ManyHostaddrs, ManyPorts}
 use Rattle.lists.specs.Fault.{isFine, numberOf, keyOf}
-use Rattle.apply.specs.declared.Applied.{Applied}
-use Rattle.apply.specs.Apply.{applied}
-use Rattle.probe_record.specs.declared.Given.{Given}
-use Rattle.probe_record.specs.declared.Settled.{Settled}
+use Rattle.config.specs.declared.Config.{Config}
+use Rattle.config.specs.Config.{defaults}
+use Rattle.apply.specs.Apply.{applied, sslModeOf, sslNegotiationOf, targetSessionAttrsOf, channelBindingOf, loadBalanceHostsOf}
+use Rattle.rows.specs.Rows.{hostsOf, addressesOf, configOf}
+use Rattle.param.specs.Sets.{Sets}
 use Rattle.report.specs.declared.Answer.{Answer}
 use Rattle.report.specs.Answer.{reported, reportedInto}
+use Rattle.probe_record.specs.declared.Given.{Given}
+use Rattle.probe_record.specs.declared.Reached.{Reached}
+use Rattle.probe_record.specs.declared.Settled.{Settled}
 use Rattle.probe_record.specs.declared.Told.{Told}
-use Rattle.probe_record.specs.Settled.{valueAt, givenAt, booked, stepOf, settled, toldLen, told}
-
-module _ (g : Given) (a : Applied) (s : Settled) where
-  pub booked-off : isFine (a .fault) ≡ false
-      → record { number = numberOf (a .fault); key = keyOf (a .fault) (g .kind); at = s .at; config = s .config } ≡ booked g a s
-  booked-off e = rw e
-
-  pub booked-on : isFine (a .fault) ≡ true → record { number = 0; key = 0; at = g .end; config = a .config } ≡ booked g a s
-  booked-on e = rw e
+use Rattle.probe_record.specs.Settled.{valueAt, givenAt, refusal, booked, stepOf, first, settled, reachedOf, toldLen, told}
 
 module _ (l : List ℕ) (at : ℕ) where
   pub given-host : getD l at 0 ≡ 255 → valueAt l 20 (at + 1) ≡ givenAt l at
@@ -35,30 +34,105 @@ module _ (l : List ℕ) (at : ℕ) where
       → valueAt l (keyNumber (partOf (at + 1) (at + 1 + getD l at 0) l)) (at + 1 + getD l at 0) ≡ givenAt l at
   given-key e = rw (ne-eqb (getD l at 0) 255 e)
 
-module _ (l : List ℕ) (s : Settled) where
-  pub step-refused : (s .number ≡ 0 → ⊥) → s ≡ stepOf l s
-  unfolding stepOf
-  step-refused e = rw (ne-eqb (s .number) 0 e)
+-- a state with nothing refused
+abbrev pub on : ℕ → Config → Settled
+on at c = record { number = 0; key = 0; at = at; config = c }
 
-  pub step-far : s .number ≡ 0 → 65536 < s .at → s ≡ stepOf l s
-  unfolding stepOf
-  step-far e f = rw (eq-eqb (s .number) 0 e, lt-ltb 65536 (s .at) f)
+-- a fault has a number
+numbered : (f : Fault) → isFine f ≡ false → numberOf f ≡ 0 → ⊥
+numbered NoFault e z = let q : _≡_ {A = ℕ} 0 1 = cc in omega arith
+numbered UnknownKey e z = omega arith
+numbered Word e z = omega arith
+numbered Form e z = omega arith
+numbered Range e z = omega arith
+numbered NoAddress e z = omega arith
+numbered ManyHosts e z = omega arith
+numbered ManyHostaddrs e z = omega arith
+numbered ManyPorts e z = omega arith
 
-  pub step-on : s .number ≡ 0 → s .at ≤ 65536 → (g : Given) → g ≡ givenAt l (s .at)
-      → (a : Applied) → a ≡ applied (g .kind) (partOf (g .start) (g .end) l) (g .start) (s .config)
-      → (t : Settled) → t ≡ booked g a s → t ≡ stepOf l s
-  unfolding stepOf
-  step-on e f g p a q t r = r ∙ rw (q, p, eq-eqb (s .number) 0 e, le-ltb 65536 (s .at) f)
+-- no record is promised of a refusal
+pub no-record : {A : Type 0} → (f : Fault) → isFine f ≡ false → (r : ℕ) → r ≡ numberOf f → r ≡ 0 → A
+no-record f e r q z = absurd (numbered f e (sym q ∙ z))
 
-pub settled-step : (n : ℕ) (l : List ℕ) (s : Settled) → 0 < n → settled n l s ≡ settled (n - 1) l (stepOf l s)
+module _ (l : List ℕ) where
+  settled-step : (n : ℕ) (s : Settled) → 0 < n → settled n l s ≡ settled (n - 1) l (stepOf l s)
+  unfolding settled
+  settled-step zero s h = absurd (omega arith)
+  settled-step (suc n) s h = let e : suc n - 1 ≡ n = omega arith in ap (λ (k : ℕ). settled k l (stepOf l s)) (sym e)
+
+  settled-still : (n : ℕ) (s : Settled) → stepOf l s ≡ s → settled n l s ≡ s
+  unfolding settled
+  settled-still zero s e = refl
+  settled-still (suc n) s e = ap (settled n l) e ∙ settled-still n s e
+
+  step-refused : (s : Settled) → (s .number ≡ 0 → ⊥) → stepOf l s ≡ s
+  unfolding stepOf
+  step-refused s e = rw (ne-eqb (s .number) 0 e)
+
+-- the settings from a place on, with the record c
+module _ (n : ℕ) (l : List ℕ) (at : ℕ) (c : Config) where
+  pub done : n ≤ 0 → settled n l (on at c) ≡ on at c
+  unfolding settled
+  done h = let e : n ≡ 0 = omega arith in rw e
+
+  step-far : 65536 < at → stepOf l (on at c) ≡ on at c
+  unfolding stepOf
+  step-far f = rw (lt-ltb 65536 at f)
+
+  pub far : 65536 < at → settled n l (on at c) ≡ on at c
+  far f = settled-still l n (on at c) (step-far f)
+
+  -- the next one comes to the fault f and, with none, to the record r
+  module _ (h : 0 < n) (near : at ≤ 65536) (g : Given) (p : g ≡ givenAt l at) (f : Fault) (r : Config)
+      (x : Sets f (applied (g .kind) (partOf (g .start) (g .end) l) (g .start) c) r) where
+    step-on : stepOf l (on at c) ≡ booked g (applied (g .kind) (partOf (g .start) (g .end) l) (g .start) c) (on at c)
+    unfolding stepOf
+    step-on = rw (p, le-ltb 65536 at near)
+
+    pub goes : isFine f ≡ true → settled n l (on at c) ≡ settled (n - 1) l (on (g .end) r)
+    goes e =
+        let fine : isFine (applied (g .kind) (partOf (g .start) (g .end) l) (g .start) c .fault) ≡ true = ap isFine (sym (x .0)) ∙ e in
+        settled-step l n (on at c) h ∙ ap (settled (n - 1) l) (step-on ∙ rw (fine, x .1 fine))
+
+    pub refuses : isFine f ≡ false → settled n l (on at c) ≡ refusal (record { number = numberOf f; key = keyOf f (g .kind); at = at })
+    refuses e =
+        let q : stepOf l (on at c) ≡ refusal (record { number = numberOf f; key = keyOf f (g .kind); at = at }) = step-on ∙ rw (sym (x .0), e) in
+        settled-step l n (on at c) h ∙ ap (settled (n - 1) l) q ∙ settled-still l (n - 1) _ (step-refused l _ (numbered f e))
+
+-- a refusal says no more than its number, its key and its place
+abbrev Plain : Settled → Type 0
+Plain s = (s .number ≡ 0 → ⊥) → refusal (reachedOf s) ≡ s
+
+either-plain : (s t : Settled) (b : Bool) → Plain s → Plain t → Plain (pick b s t)
+either-plain s t true p q = p
+either-plain s t false p q = q
+
+step-plain : (l : List ℕ) (s : Settled) → Plain s → Plain (stepOf l s)
+unfolding stepOf
+step-plain l s p =
+    either-plain _ s (eqb (s .number) 0) (either-plain s _ (ltb 65536 (s .at)) p (either-plain _ _ (isFine (applied (givenAt l (s .at) .kind) (partOf (givenAt l (s .at) .start) (givenAt l (s .at) .end) l) (givenAt l (s .at) .start) (s .config) .fault)) (λ h. absurd (h refl)) (λ h. refl))) p
+
+settled-plain : (l : List ℕ) (n : ℕ) (s : Settled) → Plain s → Plain (settled n l s)
 unfolding settled
-settled-step zero l s h = absurd (omega arith)
-settled-step (suc n) l s h = let e : suc n - 1 ≡ n = omega arith in ap (λ (k : ℕ). settled k l (stepOf l s)) (sym e)
+settled-plain l zero s p = p
+settled-plain l (suc n) s p = settled-plain l n (stepOf l s) (step-plain l s p)
 
-pub settled-done : (n : ℕ) (l : List ℕ) (s : Settled) → n ≤ 0 → settled n l s ≡ s
-unfolding settled
-settled-done zero l s h = refl
-settled-done (suc n) l s h = absurd (omega arith)
+module _ (n : ℕ) (l : List ℕ) (e : Reached) (is : e ≡ reachedOf (settled n l first)) where
+  -- a list that is refused is told from how far it went ..
+  pub refused-plain : (e .number ≡ 0 → ⊥) → refusal e ≡ settled n l first
+  refused-plain h = rw is (settled-plain l n first (λ z. absurd (z refl)) (λ z. h (ap (λ (x : Reached). x .number) is ∙ z)))
+
+  -- .. and any from that and its record
+  pub whole : (x : Config) → x ≡ settled n l first .config
+      → _≡_ {A = Settled} (record { number = e .number; key = e .key; at = e .at; config = x }) (settled n l first)
+  whole x q = rw (is, q)
+
+-- the record that the first rows stand for
+pub first-rows : configOf
+    (0 ∷ 0 ∷ 0 ∷ 0 ∷ 0 ∷ 0 ∷ 0 ∷ 0 ∷ 0 ∷ 0 ∷ 0 ∷ 0 ∷ 0 ∷ 0 ∷ 0 ∷ 2 ∷ 1 ∷ 1 ∷ 2 ∷ 1 ∷ 0 ∷ 0 ∷ 0 ∷ 0 ∷ 0 ∷ 0 ∷ 7200 ∷ 1 ∷ 0 ∷ 0 ∷ 0 ∷ 0 ∷ [])
+    (replicate 48 0) (replicate 48 0) (replicate 17 0) (replicate 16 0) ≡ defaults
+unfolding configOf hostsOf addressesOf defaults
+first-rows = refl
 
 -- what is told of a state that is known, and what its report leaves
 pub told-of : (s t : Settled) → s ≡ t → (l d e : List ℕ) (room : ℕ) (a : Answer) → a ≡ reported l (s .config) room → e ≡ reportedInto l (s .config) d

@@ -13,6 +13,7 @@ use Rattle.apply.specs.Apply.{applied}
 use Rattle.report.specs.declared.Answer.{Answer}
 use Rattle.report.specs.Answer.{reported}
 use Rattle.probe_record.specs.declared.Given.{Given}
+use Rattle.probe_record.specs.declared.Reached.{Reached}
 use Rattle.probe_record.specs.declared.Settled.{Settled}
 use Rattle.probe_record.specs.declared.Told.{Told}
 
@@ -26,11 +27,15 @@ givenAt l at =
     pick (eqb (getD l at 0) 255) (valueAt l 20 (at + 1))
     (valueAt l (keyNumber (partOf (at + 1) (at + 1 + getD l at 0) l)) (at + 1 + getD l at 0))
 
+-- a refusal says no more than its number, its key and its place: the record is the default one, as a refused text's is
+abbrev pub refusal : Reached → Settled
+refusal e = record { number = e .number; key = e .key; at = e .at; config = defaults }
+
 -- a setting that was applied: on with the record, or the refusal
 abbrev pub booked : Given → Applied → Settled → Settled
 booked g a s =
     pick (isFine (a .fault)) (record { number = 0; key = 0; at = g .end; config = a .config })
-    (record { number = numberOf (a .fault); key = keyOf (a .fault) (g .kind); at = s .at; config = s .config })
+    (refusal (record { number = numberOf (a .fault); key = keyOf (a .fault) (g .kind); at = s .at }))
 
 -- one more setting: none behind a refusal, and none from a place above 65,536
 unfoldable pub stepOf : List ℕ → Settled → Settled
@@ -48,6 +53,10 @@ first = record { number = 0; key = 0; at = 0; config = defaults }
 unfoldable pub settled : ℕ → List ℕ → Settled → Settled
 settled zero l s = s
 settled (suc n) l s = settled n l (stepOf l s)
+
+-- how far they went, without the record
+abbrev pub reachedOf : Settled → Reached
+reachedOf s = record { number = s .number; key = s .key; at = s .at }
 
 abbrev pub toldLen : Answer → ℕ
 toldLen (Answer.Length n) = n

@@ -3,9 +3,12 @@ ghost use mathlib.Core.Path.{_≡_};
 ghost use Prim.Native.Nat.{_≤_};
 ghost use lib.ListN.{length};
 ghost use Rattle.report.specs.Answer.{reported, reportedInto};
-ghost use Rattle.probe_record.specs.Settled.{valueAt, givenAt, booked, stepOf, first, settled, toldLen, told};
-use apply::Applied;
+ghost use Rattle.lists.specs.Fault.{numberOf, keyOf};
+ghost use Rattle.config.specs.Config.{defaults};
+ghost use Rattle.rows.specs.Rows.{configOf};
+ghost use Rattle.probe_record.specs.Settled.{valueAt, givenAt, first, settled, reachedOf, refusal, toldLen, told};
 use config::Config;
+use lists::Fault;
 
 // A setting's kind, and where its value stands.
 pub struct Given {
@@ -14,7 +17,14 @@ pub struct Given {
     pub end: usize,
 }
 
-// The first refusal's number and key, 0 while there is none; the place up to which settings were applied; the record.
+// How far the settings went: the first refusal's number and key, 0 where there is none, and the place of the first setting that was not applied.
+pub struct Reached {
+    pub number: usize,
+    pub key: usize,
+    pub at: usize,
+}
+
+// The same with the record, which is the default one behind a refusal.
 pub struct Settled {
     pub number: usize,
     pub key: usize,
@@ -59,68 +69,147 @@ fn given_at(list: &[u8], at: usize) -> Given
     value_at(list, names::key_number(byte::part(list, from, to)), to)
 }
 
-// A setting that was applied: on with the record, or the refusal.
-fn book(g: Given, a: Applied, s: Settled) -> Settled
-    ensures { λ r. ⌜ r ≡ booked g a s ⌝ }
+// Settings applied up to a place, and none refused.
+fn reach(at: usize) -> Reached
+    ensures { λ r. ⌜ r ≡ record { number = 0; key = 0; at = at } ⌝ }
 {
-    let fault = a.fault;
-    if !lists::is_fine(fault) {
-        let before = s.config;
-        return Settled {
-            number: lists::number_of(fault),
-            key: lists::key_of(fault, g.kind),
-            at: s.at,
-            config: before,
-        };
-    }
-    let config = a.config;
-    Settled {
+    Reached {
         number: 0,
         key: 0,
-        at: g.end,
-        config: config,
+        at: at,
     }
 }
 
-// One more setting.
-fn step(list: &[u8], s: Settled) -> Settled
-    ensures { λ r. ⌜ r ≡ stepOf (now (list .entry)) s ⌝ }
+// The setting of a kind refused that stands at a place.
+fn refuse_at(fault: Fault, kind: usize, at: usize) -> Reached
+    ensures { λ r. ⌜ r ≡ record { number = numberOf fault; key = keyOf fault kind; at = at } ⌝ }
 {
-    if s.number != 0 {
-        return s;
+    Reached {
+        number: lists::number_of(fault),
+        key: lists::key_of(fault, kind),
+        at: at,
     }
-    if 65536 < s.at {
-        return s;
-    }
-    let g = given_at(list, s.at);
-    let config = s.config;
-    let a = param::param(config, g.kind, list, g.start, g.end);
-    book(g, a, s)
 }
 
-fn start() -> Settled
-    ensures { λ r. ⌜ r ≡ first ⌝ }
+// The first n settings of a list, applied in order to the rows.
+fn settle_rows(
+    n: usize,
+    list: &[u8],
+    fields: &mut [usize; 32],
+    hosts: &mut [usize; 48],
+    sixes: &mut [u64; 48],
+    fours: &mut [u32; 17],
+    ports: &mut [u16; 16],
+) -> Reached
+    requires { ⌜ configOf (now fields) (now hosts) (now sixes) (now fours) (now ports) ≡ defaults ⌝ }
+    ensures { λ r. ⌜ r ≡ reachedOf (settled n (now (list .entry)) first) ⌝ }
+    ensures { λ r. ⌜ (r .number ≡ 0 → configOf (now (fields .exit)) (now (hosts .exit)) (now (sixes .exit)) (now (fours .exit)) (now (ports .exit)) ≡ settled n (now (list .entry)) first .config) ⌝ }
+{
+    let mut at: usize = 0;
+    let mut left = n;
+    while 0 < left {
+        if 65536 < at {
+            return reach(at);
+        }
+        let g = given_at(list, at);
+        let kind = g.kind;
+        let fault = param::param(
+            fields,
+            hosts,
+            sixes,
+            fours,
+            ports,
+            kind,
+            list,
+            g.start,
+            g.end,
+        );
+        if !lists::is_fine(fault) {
+            return refuse_at(fault, kind, at);
+        }
+        at = g.end;
+        left -= 1;
+    }
+    reach(at)
+}
+
+// A refusal, with the default record.
+fn refuse(e: Reached) -> Settled
+    ensures { λ r. ⌜ r ≡ refusal e ⌝ }
 {
     let config = Config::new();
     Settled {
-        number: 0,
-        key: 0,
-        at: 0,
+        number: e.number,
+        key: e.key,
+        at: e.at,
         config: config,
     }
 }
+
+// The first row of the default record: sslmode 2, sslnegotiation 1, target_session_attrs 1, channel_binding 2, load_balance_hosts 1, keepalives_idle 7200, keepalives 1.
+const FIRST: [usize; 32] = [
+    0,
+    0,
+    0,
+    0,
+    0,
+    0,
+    0,
+    0,
+    0,
+    0,
+    0,
+    0,
+    0,
+    0,
+    0,
+    2,
+    1,
+    1,
+    2,
+    1,
+    0,
+    0,
+    0,
+    0,
+    0,
+    0,
+    7200,
+    1,
+    0,
+    0,
+    0,
+    0,
+];
 
 // The first n settings of a list.
 fn settle(n: usize, list: &[u8]) -> Settled
     ensures { λ r. ⌜ r ≡ settled n (now (list .entry)) first ⌝ }
 {
-    let mut s = start();
-    let mut left = n;
-    while 0 < left {
-        s = step(list, s);
-        left -= 1;
+    let mut fields = FIRST;
+    let mut hosts = [0usize; 48];
+    let mut sixes = [0u64; 48];
+    let mut fours = [0u32; 17];
+    let mut ports = [0u16; 16];
+    let e = settle_rows(
+        n,
+        list,
+        &mut fields,
+        &mut hosts,
+        &mut sixes,
+        &mut fours,
+        &mut ports,
+    );
+    if e.number != 0 {
+        return refuse(e);
     }
-    s
+    let config = rows::config_of(&fields, &hosts, &sixes, &fours, &ports);
+    Settled {
+        number: e.number,
+        key: e.key,
+        at: e.at,
+        config: config,
+    }
 }
 
 // A report's length, or 1,000,000 plus the refusal.

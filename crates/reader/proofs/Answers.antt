@@ -22,14 +22,12 @@ use Rattle.url.specs.Step.{url}
 use Rattle.url.specs.Uri.{uri}
 use Rattle.url.proofs.Reading.{reading-start, left-start}
 use Rattle.config.specs.declared.Config.{Config}
-use Rattle.config.specs.declared.Plain.{Plain}
 use Rattle.config.specs.Config.{defaults}
-use Rattle.config.specs.Plain.{plainOf, joined}
 use Rattle.reader.specs.declared.Answer.{Answer}
 use Rattle.reader.specs.Reader.{reading, refusal, acceptance, Outcome, refused, accepted, ended, outcome, outcomeOf, answer, filled, left}
-use Rattle.reader.specs.Steps.{State, stateOf, firstState}
+use Rattle.reader.specs.Steps.{State, firstState}
 use Rattle.reader.proofs.Packing.{Packed, packed-none, zeros-behind, zeros-all}
-use Rattle.reader.proofs.Next.{from, measure, slack}
+use Rattle.taking.proofs.Next.{from, measure, slack}
 use Rattle.reader.proofs.Going.{Going}
 
 -- the four ways that a text goes
@@ -90,10 +88,10 @@ module _ (s d : List ℕ) (a : length s ≤ 4096) where
   begin p e true q = begin-uri p e (λ z. let h : 0 < p = ltb-true 0 p (sym q) in absurd (omega arith))
   begin p e false q = begin-pairs p e (omega (arith, ltb-false 0 p (sym q)))
 
-  -- the record is held as its lists and the rest
-  pub begin-apart : (p : ℕ) → p ≡ prefixLen s → (t : Bool) → t ≡ ltb 0 p → (c : Config) → c ≡ defaults → (q : Plain) → q ≡ plainOf c → (u : Url) → u ≡ url Stage.Credentials p
-      → Going s d t 8194 d (stateOf q (c .host) (c .hostaddr) (c .port) 0 u) 0
-  begin-apart p e t k c i q j u h = rw (h, j, i) (begin p e t k)
+  -- with the default record in the rows
+  pub begin-rows : (p : ℕ) → p ≡ prefixLen s → (t : Bool) → t ≡ ltb 0 p → (c : Config) → c ≡ defaults → (u : Url) → u ≡ url Stage.Credentials p
+      → Going s d t 8194 d (record { config = c; packed = 0; url = u }) 0
+  begin-rows p e t k c i u h = rw (h, i) (begin p e t k)
 
 -- the answer and the buffer, once it is known what the text comes to; d is the buffer before it is filled up with zeros
 module _ (s d₀ d b : List ℕ) (p : Packed (length s) d₀ b d) (long : length s ≤ length d₀) where

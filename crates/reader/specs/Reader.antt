@@ -1,11 +1,10 @@
 -- What a text comes to: document 01's sections "Numbers handed back" and "A reading".
 -- Assumes nothing.
 use Prim.Native.Nat.{ℕ, _+_, _-_}
-use mathlib.Core.Bool.{Bool, true, false, _||_}
 use mathlib.Core.List.{List, [], _∷_, _++_}
 use lib.Dec.{eqb, ltb}
 use lib.ListN.{length, drop, replicate}
-use Rattle.byte.specs.Byte.{pick, between}
+use Rattle.byte.specs.Byte.{pick}
 use Rattle.byte.specs.Put.{put}
 use Rattle.utf8.specs.Utf8.{wellFormed}
 use Rattle.names.specs.Find.{prefixLen}
@@ -16,15 +15,12 @@ use Rattle.lists.specs.Fault.{isFine, numberOf, keyOf}
 use Rattle.config.specs.declared.Config.{Config}
 use Rattle.config.specs.Config.{defaults}
 use Rattle.apply.specs.Apply.{applied}
+use Rattle.taking.specs.Taking.{keeps}
 use Rattle.reader.specs.declared.Answer.{Answer}
 
 -- "Key-value. Used unless the text starts with `postgres://` or `postgresql://`." "URI, after the prefix"
 unfoldable pub reading : List ℕ → Reading
 reading s = pick (eqb (prefixLen s) 0) (keyValue s) (uri (drop (prefixLen s) s))
-
--- "Kept values are those of user, password, dbname, options, application_name and host." One host from a URI is a host.
-unfoldable pub keeps : ℕ → Bool
-keeps kind = eqb kind 20 || eqb kind 8 || between 1 5 kind
 
 unfoldable pub kept : Setting → List ℕ
 kept s = pick (keeps (kindOf s)) (valueOf s) []

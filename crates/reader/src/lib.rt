@@ -2,20 +2,14 @@
 ghost use mathlib.Core.Path.{_≡_};
 ghost use Prim.Native.Nat.{_-_, _≤_};
 ghost use lib.ListN.{length, replicate};
-ghost use Rattle.byte.specs.Byte.{pick, partOf};
-ghost use Rattle.byte.specs.Put.{written, after};
+ghost use Rattle.byte.specs.Put.{written};
 ghost use Rattle.lists.specs.Fault.{numberOf, keyOf};
-ghost use Rattle.keyvalue.specs.KeyValue.{parameterAt};
-ghost use Rattle.reader.specs.Reader.{keeps, refusal, acceptance, outcomeOf, filled, answer, left};
-ghost use Rattle.reader.specs.Steps.{asUrlStep, nextAt, valueAt, takenOf, takenLeaves, isHost, hostsBy};
+ghost use Rattle.config.specs.Config.{defaults};
+ghost use Rattle.rows.specs.Rows.{configOf};
+ghost use Rattle.reader.specs.Reader.{refusal, outcomeOf, filled, answer, left};
+ghost use Rattle.reader.specs.Ending.{ending, endingOf};
 use config::Config;
 use lists::Fault;
-use lists::Hosts;
-use lists::MoreHosts;
-use url::Found;
-use url::Stage;
-use url::Url;
-use url::UrlStep;
 
 // What a text gives back. With a number other than 0 the record is the default one.
 pub struct Answer {
@@ -25,126 +19,20 @@ pub struct Answer {
     pub config: Config,
 }
 
-// What is taken from the text: its end, with the end's number; or a setting's kind, the place behind its value in the buffer, the place behind what
-// is packed once it is applied, and how far the text is read.
-pub struct Taken {
-    pub ended: bool,
+// The same without the record.
+pub struct Ending {
     pub number: usize,
-    pub kind: usize,
-    pub end: usize,
-    pub packed: usize,
-    pub next: Url,
+    pub key: usize,
+    pub count: usize,
 }
 
-fn refuse(number: usize, key: usize, count: usize) -> Answer
-    ensures { λ r. ⌜ r ≡ refusal number key count ⌝ }
+fn end(number: usize, key: usize, count: usize) -> Ending
+    ensures { λ r. ⌜ r ≡ ending number key count ⌝ }
 {
-    let config = Config::new();
-    Answer {
+    Ending {
         number: number,
         key: key,
         count: count,
-        config: config,
-    }
-}
-
-// Whether a setting's value is kept in the buffer.
-fn keeps_value(kind: usize) -> bool
-    ensures { λ r. ⌜ r ≡ keeps kind ⌝ }
-{
-    if kind == 20 {
-        return true;
-    }
-    if kind == 8 {
-        return true;
-    }
-    if kind == 0 {
-        return false;
-    }
-    kind <= 5
-}
-
-// A parameter of a key-value text in the words of a URI's step.
-fn next_parameter(text: &[u8], at: usize) -> UrlStep
-    ensures { λ r. ⌜ r ≡ asUrlStep (parameterAt (now (text .entry)) at) ⌝ }
-{
-    match keyvalue::parameter(text, at) {
-        keyvalue::Step::Done => UrlStep::Ended(0),
-        keyvalue::Step::Refused(n) => UrlStep::Ended(n),
-        keyvalue::Step::Found { key, value, next } => {
-            let stage = Stage::Credentials;
-            let url = Url {
-                stage: stage,
-                at: next,
-            };
-            let found = Found {
-                kind: key.number,
-                from: value.from,
-                to: value.to,
-                len: value.len,
-                fixed: false,
-                next: url,
-            };
-            UrlStep::Given(found)
-        }
-    }
-}
-
-fn next_setting(text: &[u8], uri: bool, u: Url) -> UrlStep
-    ensures { λ r. ⌜ r ≡ nextAt (now (text .entry)) uri u ⌝ }
-{
-    if uri {
-        return url::step(text, u);
-    }
-    next_parameter(text, u.at)
-}
-
-// Writes a setting's value, decoded, at a place of the buffer.
-fn put_value(text: &[u8], uri: bool, f: Found, decode: &mut [u8], at: usize) -> usize
-    ensures { λ r. ⌜ r ≡ after (now (decode .entry)) at (valueAt (now (text .entry)) uri f) ⌝ }
-    ensures { λ _. ⌜ now (decode .exit) ≡ written (now (decode .entry)) at (valueAt (now (text .entry)) uri f) ⌝ }
-{
-    if uri {
-        return url::put_value(text, f, decode, at);
-    }
-    keyvalue::unescape(byte::part(text, f.from, f.to), decode, at)
-}
-
-// The place behind what is packed, once a setting's value stands from `at` up to `end`.
-fn packed_after(kind: usize, at: usize, end: usize) -> usize
-    ensures { λ r. ⌜ r ≡ pick (keeps kind) end at ⌝ }
-{
-    if keeps_value(kind) { end } else { at }
-}
-
-// One setting read, and its value written behind what is packed; or the end.
-fn take_setting(text: &[u8], decode: &mut [u8], uri: bool, u: Url, at: usize) -> Taken
-    ensures { λ r. ⌜ r ≡ takenOf (now (text .entry)) uri u at (now (decode .entry)) ⌝ }
-    ensures { λ _. ⌜ now (decode .exit) ≡ takenLeaves (now (text .entry)) uri u at (now (decode .entry)) ⌝ }
-{
-    let next = next_setting(text, uri, u);
-    match next {
-        UrlStep::Ended(n) => Taken {
-            ended: true,
-            number: n as usize,
-            kind: 0,
-            end: at,
-            packed: at,
-            next: u,
-        },
-        UrlStep::Given(f) => {
-            let kind = f.kind;
-            let then = f.next;
-            let end = put_value(text, uri, f, decode, at);
-            Taken {
-                ended: false,
-                number: 0,
-                kind: kind,
-                end: end,
-                packed: packed_after(kind, at, end),
-                next: then,
-            }
-        }
     }
 }
 
@@ -156,17 +44,17 @@ fn rest_of(n: usize, k: usize) -> usize
 }
 
 // A text of `n` bytes refused: zeros up to its length.
-fn refuse_text(decode: &mut [u8], n: usize, number: usize, key: usize, count: usize) -> Answer
-    ensures { λ r. ⌜ r ≡ refusal number key count ⌝ }
+fn refuse_text(decode: &mut [u8], n: usize, number: usize, key: usize, count: usize) -> Ending
+    ensures { λ r. ⌜ r ≡ ending number key count ⌝ }
     ensures { λ _. ⌜ now (decode .exit) ≡ written (now (decode .entry)) 0 (replicate n 0) ⌝ }
 {
     byte::clear(decode, 0, n);
-    refuse(number, key, count)
+    end(number, key, count)
 }
 
 // A text of `n` bytes refused at a setting.
-fn refuse_setting(decode: &mut [u8], n: usize, fault: Fault, kind: usize, count: usize) -> Answer
-    ensures { λ r. ⌜ r ≡ refusal (numberOf fault) (keyOf fault kind) count ⌝ }
+fn refuse_setting(decode: &mut [u8], n: usize, fault: Fault, kind: usize, count: usize) -> Ending
+    ensures { λ r. ⌜ r ≡ ending (numberOf fault) (keyOf fault kind) count ⌝ }
     ensures { λ _. ⌜ now (decode .exit) ≡ written (now (decode .entry)) 0 (replicate n 0) ⌝ }
 {
     refuse_text(
@@ -179,112 +67,159 @@ fn refuse_setting(decode: &mut [u8], n: usize, fault: Fault, kind: usize, count:
 }
 
 // A text of `n` bytes accepted: what is packed stays, zeros up to the text's length.
-fn accept(decode: &mut [u8], n: usize, packed: usize, count: usize, config: Config) -> Answer
-    ensures { λ r. ⌜ r ≡ acceptance count config ⌝ }
+fn accept(decode: &mut [u8], n: usize, packed: usize, count: usize) -> Ending
+    ensures { λ r. ⌜ r ≡ ending 0 0 count ⌝ }
     ensures { λ _. ⌜ now (decode .exit) ≡ written (now (decode .entry)) packed (replicate (n - packed) 0) ⌝ }
 {
     byte::clear(decode, packed, rest_of(n, packed));
-    Answer {
-        number: 0,
-        key: 0,
-        count: count,
-        config: config,
-    }
+    end(0, 0, count)
 }
 
-// Whether a setting is of a host's kind.
-fn is_host(kind: usize) -> bool
-    ensures { λ r. ⌜ r ≡ isHost kind ⌝ }
-{
-    if kind == 20 {
-        return true;
-    }
-    kind == 8
-}
-
-// The hosts after a setting of a host's kind: one from a URI, or the pieces of a value.
-fn more_hosts(h: Hosts, kind: usize, buffer: &[u8], start: usize, end: usize) -> MoreHosts
-    ensures { λ r. ⌜ r ≡ hostsBy kind h start (partOf start end (now (buffer .entry))) ⌝ }
-{
-    if kind == 20 {
-        return lists::add_host(h, buffer, start, end);
-    }
-    lists::add_hosts(h, buffer, start, end)
-}
-
-// The settings of a text, applied in order. The lists are held apart from the rest of the record: a turn moves only what it changes.
-fn read_settings(text: &[u8], decode: &mut [u8]) -> Answer
-    requires { ⌜ (length (now text) ≤ 4096) × (length (now text) ≤ length (now decode)) ⌝ }
-    ensures { λ r. ⌜ r ≡ outcomeOf (now (text .entry)) .answer ⌝ }
+// The settings of a text, applied in order to the rows.
+fn read_settings(
+    text: &[u8],
+    decode: &mut [u8],
+    fields: &mut [usize; 32],
+    hosts: &mut [usize; 48],
+    sixes: &mut [u64; 48],
+    fours: &mut [u32; 17],
+    ports: &mut [u16; 16],
+) -> Ending
+    requires { ⌜ (length (now text) ≤ 4096) × (length (now text) ≤ length (now decode)) × (configOf (now fields) (now hosts) (now sixes) (now fours) (now ports) ≡ defaults) ⌝ }
+    ensures { λ r. ⌜ r ≡ endingOf (outcomeOf (now (text .entry)) .answer) ⌝ }
     ensures { λ _. ⌜ now (decode .exit) ≡ filled (now (text .entry)) (outcomeOf (now (text .entry)) .packed) (now (decode .entry)) ⌝ }
+    ensures { λ r. ⌜ (r .number ≡ 0 → configOf (now (fields .exit)) (now (hosts .exit)) (now (sixes .exit)) (now (fours .exit)) (now (ports .exit)) ≡ outcomeOf (now (text .entry)) .answer .config) ⌝ }
 {
     let n = text.len();
     let prefix = names::prefix_len(text);
     let uri = 0 < prefix;
-    let first = Config::new();
-    let mut plain = config::plain_of(first);
-    let mut host = first.host;
-    let mut hostaddr = first.hostaddr;
-    let mut port = first.port;
     let mut packed: usize = 0;
     let mut url = url::start(prefix);
     let mut count: usize = 0;
     loop {
-        let t = take_setting(text, decode, uri, url, packed);
+        let t = taking::take_setting(text, decode, uri, url, packed);
         let kind = t.kind;
         if t.ended {
             let number = t.number;
             if number == 0 {
-                let config = config::join(plain, host, hostaddr, port);
-                return accept(decode, n, packed, count, config);
+                return accept(decode, n, packed, count);
             }
             return refuse_text(decode, n, number, 0, count);
         }
-        if kind == 10 {
-            let more = lists::add_ports(port, byte::part(decode, packed, t.end));
-            let fault = more.fault;
-            if lists::is_fine(fault) {
-                port = more.ports;
-                packed = t.packed;
-                url = t.next;
-                count += 1;
-                continue;
-            }
-            return refuse_setting(decode, n, fault, kind, count);
-        }
-        if kind == 9 {
-            let more = lists::add_addresses(hostaddr, byte::part(decode, packed, t.end));
-            let fault = more.fault;
-            if lists::is_fine(fault) {
-                hostaddr = more.addresses;
-                packed = t.packed;
-                url = t.next;
-                count += 1;
-                continue;
-            }
-            return refuse_setting(decode, n, fault, kind, count);
-        }
-        if is_host(kind) {
-            let more = more_hosts(host, kind, decode, packed, t.end);
-            let fault = more.fault;
-            if lists::is_fine(fault) {
-                host = more.hosts;
-                packed = t.packed;
-                url = t.next;
-                count += 1;
-                continue;
-            }
-            return refuse_setting(decode, n, fault, kind, count);
-        }
-        let a = param::param_plain(plain, kind, byte::part(decode, packed, t.end), packed);
-        let fault = a.fault;
+        let fault = param::param(
+            fields,
+            hosts,
+            sixes,
+            fours,
+            ports,
+            kind,
+            decode,
+            packed,
+            t.end,
+        );
         if !lists::is_fine(fault) {
             return refuse_setting(decode, n, fault, kind, count);
         }
-        plain = a.plain;
         packed = t.packed;
         url = t.next;
         count += 1;
+    }
+}
+
+// A text of at most 4,096 bytes read into rows, for any bytes and any two lengths.
+fn read_rows(
+    text: &[u8],
+    decode: &mut [u8],
+    fields: &mut [usize; 32],
+    hosts: &mut [usize; 48],
+    sixes: &mut [u64; 48],
+    fours: &mut [u32; 17],
+    ports: &mut [u16; 16],
+) -> Ending
+    requires { ⌜ configOf (now fields) (now hosts) (now sixes) (now fours) (now ports) ≡ defaults ⌝ }
+    ensures { λ r. ⌜ r ≡ endingOf (answer (now (text .entry)) (length (now (decode .entry)))) ⌝ }
+    ensures { λ _. ⌜ now (decode .exit) ≡ left (now (text .entry)) (now (decode .entry)) ⌝ }
+    ensures { λ r. ⌜ (r .number ≡ 0 → configOf (now (fields .exit)) (now (hosts .exit)) (now (sixes .exit)) (now (fours .exit)) (now (ports .exit)) ≡ answer (now (text .entry)) (length (now (decode .entry))) .config) ⌝ }
+{
+    if 4096 < text.len() {
+        return end(1, 0, 0);
+    }
+    if decode.len() < text.len() {
+        return end(2, 0, 0);
+    }
+    if !utf8::valid(text) {
+        return refuse_text(decode, text.len(), 3, 0, 0);
+    }
+    read_settings(text, decode, fields, hosts, sixes, fours, ports)
+}
+
+// The first row of the default record: sslmode 2, sslnegotiation 1, target_session_attrs 1, channel_binding 2, load_balance_hosts 1, keepalives_idle 7200, keepalives 1.
+const FIRST: [usize; 32] = [
+    0,
+    0,
+    0,
+    0,
+    0,
+    0,
+    0,
+    0,
+    0,
+    0,
+    0,
+    0,
+    0,
+    0,
+    0,
+    2,
+    1,
+    1,
+    2,
+    1,
+    0,
+    0,
+    0,
+    0,
+    0,
+    0,
+    7200,
+    1,
+    0,
+    0,
+    0,
+    0,
+];
+
+// A text's number, key and count, and no record.
+pub fn judge(text: &[u8], decode: &mut [u8]) -> Ending
+    ensures { λ r. ⌜ r ≡ endingOf (answer (now (text .entry)) (length (now (decode .entry)))) ⌝ }
+    ensures { λ _. ⌜ now (decode .exit) ≡ left (now (text .entry)) (now (decode .entry)) ⌝ }
+{
+    let mut fields = FIRST;
+    let mut hosts = [0usize; 48];
+    let mut sixes = [0u64; 48];
+    let mut fours = [0u32; 17];
+    let mut ports = [0u16; 16];
+    read_rows(
+        text,
+        decode,
+        &mut fields,
+        &mut hosts,
+        &mut sixes,
+        &mut fours,
+        &mut ports,
+    )
+}
+
+// A refusal, with the default record.
+fn refuse(e: Ending) -> Answer
+    ensures { λ r. ⌜ r ≡ refusal (e .number) (e .key) (e .count) ⌝ }
+{
+    let config = Config::new();
+    Answer {
+        number: e.number,
+        key: e.key,
+        count: e.count,
+        config: config,
     }
 }
 
@@ -293,14 +228,28 @@ pub fn read(text: &[u8], decode: &mut [u8]) -> Answer
     ensures { λ r. ⌜ r ≡ answer (now (text .entry)) (length (now (decode .entry))) ⌝ }
     ensures { λ _. ⌜ now (decode .exit) ≡ left (now (text .entry)) (now (decode .entry)) ⌝ }
 {
-    if 4096 < text.len() {
-        return refuse(1, 0, 0);
+    let mut fields = FIRST;
+    let mut hosts = [0usize; 48];
+    let mut sixes = [0u64; 48];
+    let mut fours = [0u32; 17];
+    let mut ports = [0u16; 16];
+    let e = read_rows(
+        text,
+        decode,
+        &mut fields,
+        &mut hosts,
+        &mut sixes,
+        &mut fours,
+        &mut ports,
+    );
+    if e.number != 0 {
+        return refuse(e);
     }
-    if decode.len() < text.len() {
-        return refuse(2, 0, 0);
+    let config = rows::config_of(&fields, &hosts, &sixes, &fours, &ports);
+    Answer {
+        number: e.number,
+        key: e.key,
+        count: e.count,
+        config: config,
     }
-    if !utf8::valid(text) {
-        return refuse_text(decode, text.len(), 3, 0, 0);
-    }
-    read_settings(text, decode)
 }

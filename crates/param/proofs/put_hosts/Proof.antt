@@ -1,26 +1,20 @@
-use Rattle.lists.proofs.Faults.{fine-none}
-use mathlib.Core.Path.{sym, _∙_}
-use borrow.Author.Tests.{not-true, not-false}
-use Rattle.apply.specs.Apply.{applied, faultOf, after}
+use Rattle.param.proofs.Laws.{hosts-set}
 use borrow.Author.Needs.{needs}
 use Rattle.param.proofs.put_hosts.Statement.{statement}
 use Rattle.param.proofs.put_hosts.Tie as tie
 
+element-copy-out-add-hosts : tie.Need-element-copy-out-add-hosts
+element-copy-out-add-hosts c = search needs
+
 add-hosts-requires : tie.Need-add-hosts-requires
 add-hosts-requires c κs = search needs
 
-is-fine-requires : tie.Need-is-fine-requires
-is-fine-requires c κs = search needs
+element-write-fields : tie.Need-element-write-fields
+element-write-fields c = search needs
 
 returns : tie.Need-returns
-unfolding applied faultOf after
-returns c = rw (← c .before .before .add-hosts .ensures, sym (c .before .is-fine .ensures) ∙ not-true _ (c .if1 .taken))
-
-returns-2 : tie.Need-returns-2
-unfolding applied faultOf after
-returns-2 c =
-    let q = c .before .before in
-    rw (← q .before .add-hosts .ensures, fine-none (q .before .add-hosts .result .fault) (sym (q .is-fine .ensures) ∙ not-false _ (c .before .if1 .left)))
+returns c sixes fours ports = hosts-set _ _ _ _ _ _ _ _ _ (c .before .before .before .before .pre .0) (c .add-hosts .ensures)
 
 pub put-hosts-spec : {M : Type 1} → statement M
-put-hosts-spec = tie.close (tie.spec add-hosts-requires is-fine-requires returns returns-2)
+put-hosts-spec =
+    tie.close (tie.spec element-copy-out-add-hosts add-hosts-requires element-write-fields returns)

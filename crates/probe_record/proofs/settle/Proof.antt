@@ -1,48 +1,34 @@
-use mathlib.Core.Path.{_≡_, sym, ap, _∙_}
-use native.Mathlib.Omega.{arith}
+use mathlib.Core.Path.{_∙_}
+use Rattle.probe_record.proofs.Laws.{refused-plain, whole, first-rows}
 use borrow.Author.Needs.{needs}
-use Rattle.probe_record.specs.Settled.{first, settled}
-use Rattle.probe_record.proofs.Laws.{settled-step, settled-done}
 use Rattle.probe_record.proofs.settle.Statement.{statement}
 use Rattle.probe_record.proofs.settle.Tie as tie
 
-abbrev Inv-loop : tie.InvT-loop
-Inv-loop n list s₀ left₀ s left = settled n list first ≡ settled left list s
+settle-rows-requires : tie.Need-settle-rows-requires
+settle-rows-requires c κs = first-rows
 
-abbrev μ-loop : tie.MeasureT-loop
-μ-loop n list s₀ left₀ s left = left
+refuse-requires : tie.Need-refuse-requires
+refuse-requires c κs = search needs
 
-start-requires : tie.Need-start-requires Inv-loop μ-loop
-start-requires c κs = search needs
+returns : tie.Need-returns
+returns c =
+    let r = c .before .before .before .settle-rows .ensures in
+    c .refuse .ensures ∙ refused-plain _ _ _ (r .0) (c .before .if1 .taken)
 
-loop-holds : tie.Need-loop-holds Inv-loop μ-loop
-loop-holds c = ap (settled (c .before .before .args .n) (c .before .before .args .list .now)) (sym (c .start .ensures))
+config-of-requires : tie.Need-config-of-requires
+config-of-requires c κs = search needs
 
-step-requires : tie.Need-step-requires Inv-loop μ-loop
-step-requires c κs = search needs
-
-sub-left : tie.Need-sub-left Inv-loop μ-loop
-sub-left c = search needs
-
-loop-less : tie.Need-loop-less Inv-loop μ-loop
-loop-less c = omega arith
-
-loop-again : tie.Need-loop-again Inv-loop μ-loop
-loop-again c = c .before .before .loop .inv ∙ settled-step _ _ _ (c .before .loop-test .taken) ∙ ap (settled _ _) (sym (c .step .ensures))
-
-returns : tie.Need-returns Inv-loop μ-loop
-returns c = sym (c .before .loop .inv ∙ settled-done _ _ _ (c .loop-test .left))
+returns-2 : tie.Need-returns-2
+returns-2 c =
+    let r = c .before .before .before .before .before .before .before .before .settle-rows .ensures in
+    whole _ _ _ (r .0) _ (c .config-of .ensures ∙ r .1 (c .before .before .before .before .before .before .if1 .left))
 
 pub settle-spec : {M : Type 1} → statement M
 settle-spec =
     tie.close
     (tie.spec
-    Inv-loop
-    μ-loop
-    start-requires
-    loop-holds
-    step-requires
-    sub-left
-    loop-less
-    loop-again
-    returns)
+    settle-rows-requires
+    refuse-requires
+    returns
+    config-of-requires
+    returns-2)

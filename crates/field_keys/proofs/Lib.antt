@@ -1,0 +1,3 @@
+pub mod Seconds
+pub mod Retries
+pub mod Fields
