@@ -35,29 +35,26 @@ SLIPS = [
 """),
     ]),
     ("uri_host_split_at_commas", [
-        ("reader", "    if kind == 20 {\n        return lists::add_host(", "    if kind == 20 {\n        return lists::add_hosts("),
+        ("param", "row_lists::add_host(", "row_lists::add_hosts("),
     ]),
     ("character_behind_backslash_dropped", [
         ("backslash", "{ at + 1 } else { at }", "{ at + 2 } else { at }"),
     ]),
     ("syntax_judged_before_the_first_setting", [
-        ("reader", "    let first = Config::new();\n", """\
-    let first = Config::new();
+        ("reader", "    let mut packed: usize = 0;\n", """\
     let mut ahead = url::start(prefix);
     loop {
-        match next_setting(text, uri, ahead) {
-            UrlStep::Given(f) => {
-                ahead = f.next;
+        let t = taking::take_setting(text, decode, uri, ahead, 0);
+        if t.ended {
+            let number = t.number;
+            if number != 0 {
+                return refuse_text(decode, n, number, 0, 0);
             }
-            UrlStep::Ended(n) => {
-                if n != 0 {
-                    byte::clear(decode, 0, text.len());
-                    return refuse(n as usize, 0, 0);
-                }
-                break;
-            }
+            break;
         }
+        ahead = t.next;
     }
+    let mut packed: usize = 0;
 """),
     ]),
     ("only_ascii_white_space", [
@@ -79,60 +76,41 @@ SLIPS = [
     ]),
     # kept values
     ("replaced_value_removed", [
-        ("reader", "// What is left of `n`", """\
-fn next_kind(text: &[u8], uri: bool, u: Url) -> usize {
-    match next_setting(text, uri, u) {
-        UrlStep::Given(f) => f.kind,
-        UrlStep::Ended(_) => 0,
-    }
-}
-
-fn replaced(p: config::Plain, kind: usize) -> config::Text {
-    match kind {
-        1 => p.user,
-        2 => p.password,
-        3 => p.dbname,
-        4 => p.options,
-        _ => p.application_name,
-    }
-}
-
+        ("reader", "// The settings of a text, applied in order", """\
 // The place of the text that is replaced, where nothing stands behind it.
-fn freed(p: config::Plain, kind: usize, packed: usize) -> usize {
+fn freed(fields: &[usize; 32], kind: usize, packed: usize) -> usize {
     if kind == 0 {
         return packed;
     }
     if 5 < kind {
         return packed;
     }
-    let old = replaced(p, kind);
-    if !old.set {
+    let at = 3 * (kind - 1);
+    if fields[at] == 0 {
         return packed;
     }
-    let place = old.place;
-    if place.start + place.len == packed {
-        return place.start;
+    if fields[at + 1] + fields[at + 2] == packed {
+        return fields[at + 1];
     }
     packed
 }
 
-// What is left of `n`"""),
-        ("reader", "        let t = take_setting(", """\
-        packed = freed(plain, next_kind(text, uri, url), packed);
-        let t = take_setting("""),
+// The settings of a text, applied in order"""),
+        ("reader", "        let t = taking::take_setting(", """\
+        let ahead = taking::take_setting(text, decode, uri, url, packed);
+        packed = freed(fields, ahead.kind, packed);
+        let t = taking::take_setting("""),
     ]),
     ("replaced_value_wiped", [
-        ("reader", "        let t = take_setting(", """\
-        let ahead = take_setting(text, decode, uri, url, packed);
+        ("reader", "        let t = taking::take_setting(", """\
+        let ahead = taking::take_setting(text, decode, uri, url, packed);
         if ahead.kind == 2 {
-            let old = plain.password;
-            let place = old.place;
-            byte::clear(decode, place.start, place.len);
+            byte::clear(decode, fields[4], fields[5]);
         }
-        let t = take_setting("""),
+        let t = taking::take_setting("""),
     ]),
     ("host_kept_per_piece", [
-        ("reader", "// What is left of `n`", """\
+        ("reader", "// The settings of a text, applied in order", """\
 // Takes the commas out of a part of the buffer, and answers where it ends then.
 fn without_commas(decode: &mut [u8], at: usize, end: usize) -> usize {
     let mut k = at;
@@ -148,49 +126,31 @@ fn without_commas(decode: &mut [u8], at: usize, end: usize) -> usize {
     k
 }
 
-fn nearer(h: lists::Host, by: usize) -> lists::Host {
-    let kind = h.kind;
-    match kind {
-        lists::HostKind::Tcp(p) => {
-            let place = lists::Place { start: p.start - by, len: p.len };
-            let kind = lists::HostKind::Tcp(place);
-            lists::Host { kind: kind }
-        }
-        lists::HostKind::Unix(p) => {
-            let place = lists::Place { start: p.start - by, len: p.len };
-            let kind = lists::HostKind::Unix(place);
-            lists::Host { kind: kind }
-        }
-    }
-}
-
 // The hosts from one on, each nearer by as many commas as stood before it.
-fn closed_up(h: Hosts, first: usize) -> Hosts {
-    let mut hosts = h;
+fn close_up(hosts: &mut [usize; 48], first: usize, count: usize) {
     let mut i = first;
-    while i < hosts.count {
-        let host = hosts.list[i];
-        let moved = nearer(host, i - first);
-        hosts.list[i] = moved;
+    while i < count {
+        hosts[3 * i + 1] -= i - first;
         i += 1;
     }
-    hosts
 }
 
-// What is left of `n`"""),
-        ("reader", "                host = more.hosts;\n                packed = t.packed;\n", """\
-                let at = packed;
-                let before = host.count;
-                host = more.hosts;
-                packed = t.packed;
-                if kind == 8 {
-                    packed = without_commas(decode, at, t.end);
-                    host = closed_up(host, before);
-                }
+// The settings of a text, applied in order"""),
+        ("reader", "        let fault = param::param(\n", """\
+        let before = fields[29];
+        let fault = param::param(
+"""),
+        ("reader", "        packed = t.packed;\n", """\
+        let at = packed;
+        packed = t.packed;
+        if kind == 8 {
+            packed = without_commas(decode, at, t.end);
+            close_up(hosts, before, fields[29]);
+        }
 """),
     ]),
     ("values_of_every_key_kept", [
-        ("reader", "    kind <= 5\n", "    kind <= 19\n"),
+        ("taking", "        _ => false,\n", "        _ => true,\n"),
     ]),
     # the reader
     ("refusal_leaves_the_buffer", [
@@ -355,40 +315,55 @@ fn last_at_sign(s: &[u8], at: usize) -> usize {
     ]),
     # settings
     ("sixteenth_host_refused", [
-        ("lists", "        if 16 <= n {\n            fault = Fault::ManyHosts;", "        if 15 <= n {\n            fault = Fault::ManyHosts;"),
+        ("row_lists", """\
+        if 16 <= count {
+            return Added {
+                fault: Fault::ManyHosts,
+""", """\
+        if 15 <= count {
+            return Added {
+                fault: Fault::ManyHosts,
+"""),
     ]),
     ("room_judged_before_form", [
-        ("lists", "        let read = read_port(", """\
-        if 16 <= ports.count {
-            return MorePorts { fault: Fault::ManyPorts, ports: p };
+        ("row_lists", "        let read = read_port(", """\
+        if 16 <= count {
+            return Added { fault: Fault::ManyPorts, count: count };
         }
         let read = read_port("""),
     ]),
     ("empty_port_piece_refused", [
-        ("lists", "        return Number16::Is(5432);\n", "        return Number16::Form;\n"),
+        ("row_lists", "        return Number16::Is(5432);\n", "        return Number16::Form;\n"),
     ]),
     ("zero_timeout_stored", [
-        ("number_keys", "    if seconds == 0 {\n        return old;\n    }\n", ""),
+        ("field_keys", "            if seconds == 0 {\n                return Fault::NoFault;\n            }\n", ""),
     ]),
     ("keepalives_on_for_one_only", [
-        ("number_keys", "next.keepalives = 0 < n;", "next.keepalives = n == 1;"),
+        ("field_keys", "            fields[27] = n as usize;\n", """\
+            fields[27] = 0;
+            if n == 1 {
+                fields[27] = 1;
+            }
+"""),
     ]),
     ("read_only_taken_for_read_write", [
-        ("word_keys", "_ => TargetSessionAttrs::ReadOnly,", "_ => TargetSessionAttrs::ReadWrite,"),
+        ("rows", "word: TargetSessionAttrs::ReadOnly,", "word: TargetSessionAttrs::ReadWrite,"),
     ]),
     ("unknown_key_passed_over", [
-        ("param", "fault: Fault::UnknownKey,", "fault: Fault::NoFault,"),
+        ("param", "_ => Fault::UnknownKey,", "_ => Fault::NoFault,"),
     ]),
     ("first_of_repeated_users_stays", [
-        ("param", "    next.user = text;\n", """\
-    let old = p.user;
-    if !old.set {
-        next.user = text;
-    }
+        ("param", "        1 => field_keys::put_text(fields, 0, start, v.len()),\n", """\
+        1 => {
+            if 0 < fields[0] {
+                return Fault::NoFault;
+            }
+            field_keys::put_text(fields, 0, start, v.len())
+        }
 """),
     ]),
     ("idle_of_an_hour_by_default", [
-        ("config", "keepalives_idle: 7200,", "keepalives_idle: 3600,"),
+        ("reader", "    7200,\n", "    3600,\n"),
     ]),
     # the report
     ("password_shown", [
