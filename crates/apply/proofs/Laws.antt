@@ -28,10 +28,6 @@ module _ (kind : ℕ) (v : List ℕ) (start : ℕ) (c : Config) where
   unfolding applied
   applied-refused e = rw e
 
--- what was applied to the value that stands there, by the number of its kind
-pub by-number : (kind n : ℕ) (v w : List ℕ) (start : ℕ) (c : Config) (r : Applied) → kind ≡ n → w ≡ v → r ≡ applied n w start c → r ≡ applied kind v start c
-by-number kind n v w start c r k e h = rw (k, ← e) h
-
 -- 4 "unknown key": neither a key's number nor that of one host
 unlisted : (kind : ℕ) (v : List ℕ) (start : ℕ) (c : Config) → (1 ≤ kind → 21 ≤ kind) → faultOf kind v start c ≡ Fault.UnknownKey
 unfolding faultOf

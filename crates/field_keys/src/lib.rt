@@ -10,7 +10,7 @@ use number::Number;
 use number::Number32;
 use number::Signed;
 
-// A text, kept where it stands: its three cells begin at `at`.
+// A text, kept where it stands: its three cells begin at `at`. From 30 on there is no room for them, and nothing is written; so with the other two.
 pub fn put_text(fields: &mut [usize; 32], at: usize, start: usize, len: usize) -> Fault
     ensures { λ r. ⌜ r ≡ Fault.NoFault ⌝ }
     ensures { λ _. ⌜ now (fields .exit) ≡ textPut at start len (now (fields .entry)) ⌝ }

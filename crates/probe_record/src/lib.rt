@@ -2,7 +2,7 @@
 ghost use mathlib.Core.Path.{_≡_};
 ghost use Prim.Native.Nat.{_≤_};
 ghost use lib.ListN.{length};
-ghost use Rattle.report.specs.Answer.{reported, reportedInto};
+ghost use Rattle.report.specs.Answer.{reportedInto};
 ghost use Rattle.lists.specs.Fault.{numberOf, keyOf};
 ghost use Rattle.config.specs.Config.{defaults};
 ghost use Rattle.rows.specs.Rows.{configOf};

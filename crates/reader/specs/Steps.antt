@@ -1,7 +1,6 @@
--- How far a text is read: the record so far, and what stands for it in the rows.
+-- How far a text is read, and the record so far.
 -- Assumes nothing.
 use Prim.Native.Nat.{ℕ}
-use mathlib.Core.List.{List}
 use Rattle.url.specs.declared.Stage.{Stage}
 use Rattle.url.specs.declared.Url.{Url}
 use Rattle.url.specs.Step.{url}

@@ -126,7 +126,7 @@ fn read_settings(
     }
 }
 
-// A text of at most 4,096 bytes read into rows, for any bytes and any two lengths.
+// A text read into rows, for any bytes and any two lengths.
 fn read_rows(
     text: &[u8],
     decode: &mut [u8],

@@ -195,7 +195,7 @@ fn addresses_of(sixes: &[u64], fours: &[u32], count: usize) -> Addresses
     }
 }
 
-// The record that the rows stand for.
+// The record that the rows stand for: `fields` has all that stands once, `fours` keepalives_retries and then the IPv4 addresses, `sixes` the IPv6 ones.
 pub fn config_of(
     fields: &[usize; 32],
     hosts: &[usize; 48],
