@@ -1,6 +1,6 @@
 // The record made of the rows of numbers that hold its settings while a text is read.
 ghost use mathlib.Core.Path.{_≡_};
-ghost use mathlib.Core.List.{[], _∷_};
+ghost use Prim.Native.Nat.{_<_};
 ghost use lib.ListN.{length, drop};
 ghost use Rattle.apply.specs.Apply.{sslModeOf, sslNegotiationOf, targetSessionAttrsOf, channelBindingOf, loadBalanceHostsOf};
 ghost use Rattle.rows.specs.Rows.{textAt, timeAt, hostAt, hostsOf, addressAt, addressesOf, configOf};
@@ -27,27 +27,29 @@ use lists::Hosts;
 use lists::Place;
 use lists::Ports;
 
-// A text of three numbers: whether it is set, its start, its length.
-fn text_of(set: usize, start: usize, len: usize) -> Text
-    ensures { λ r. ⌜ r ≡ textAt (set ∷ start ∷ len ∷ []) 0 ⌝ }
+// The text whose three cells begin at `at`: whether it is set, its start, its length.
+fn text_at(fields: &[usize; 32], at: usize) -> Text
+    requires { ⌜ at < 30 ⌝ }
+    ensures { λ r. ⌜ r ≡ textAt (now (fields .entry)) at ⌝ }
 {
     let place = Place {
-        start: start,
-        len: len,
+        start: fields[at + 1],
+        len: fields[at + 2],
     };
     Text {
-        set: 0 < set,
+        set: 0 < fields[at],
         place: place,
     }
 }
 
-// A time of two: whether it is set, its seconds.
-fn time_of(set: usize, seconds: usize) -> Seconds
-    ensures { λ r. ⌜ r ≡ timeAt (set ∷ seconds ∷ []) 0 ⌝ }
+// The time whose two cells begin at `at`: whether it is set, its seconds.
+fn time_at(fields: &[usize; 32], at: usize) -> Seconds
+    requires { ⌜ at < 31 ⌝ }
+    ensures { λ r. ⌜ r ≡ timeAt (now (fields .entry)) at ⌝ }
 {
     Seconds {
-        set: 0 < set,
-        seconds: seconds as u64,
+        set: 0 < fields[at],
+        seconds: fields[at + 1] as u64,
     }
 }
 
@@ -213,19 +215,19 @@ pub fn config_of(
         set: 0 < fields[28],
         retries: fours[0],
     };
-    let user = text_of(fields[0], fields[1], fields[2]);
-    let password = text_of(fields[3], fields[4], fields[5]);
-    let dbname = text_of(fields[6], fields[7], fields[8]);
-    let options = text_of(fields[9], fields[10], fields[11]);
-    let application_name = text_of(fields[12], fields[13], fields[14]);
+    let user = text_at(fields, 0);
+    let password = text_at(fields, 3);
+    let dbname = text_at(fields, 6);
+    let options = text_at(fields, 9);
+    let application_name = text_at(fields, 12);
     let ssl_mode = ssl_mode_of(fields[15]);
     let ssl_negotiation = ssl_negotiation_of(fields[16]);
     let target_session_attrs = target_session_attrs_of(fields[17]);
     let channel_binding = channel_binding_of(fields[18]);
     let load_balance_hosts = load_balance_hosts_of(fields[19]);
-    let connect_timeout = time_of(fields[20], fields[21]);
-    let tcp_user_timeout = time_of(fields[22], fields[23]);
-    let keepalives_interval = time_of(fields[24], fields[25]);
+    let connect_timeout = time_at(fields, 20);
+    let tcp_user_timeout = time_at(fields, 22);
+    let keepalives_interval = time_at(fields, 24);
     let host = hosts_of(hosts, fields[29]);
     let hostaddr = addresses_of(sixes, fours, fields[30]);
     Config {

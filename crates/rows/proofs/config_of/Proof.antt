@@ -12,65 +12,20 @@ element-copy-out-t26-2 c = search needs
 element-copy-out-t32 : tie.Need-element-copy-out-t32
 element-copy-out-t32 c = search needs
 
-element-copy-out-text-of : tie.Need-element-copy-out-text-of
-element-copy-out-text-of c = search needs
+text-at-requires : tie.Need-text-at-requires
+text-at-requires c κs = search needs
 
-element-copy-out-text-of-2 : tie.Need-element-copy-out-text-of-2
-element-copy-out-text-of-2 c = search needs
+text-at-requires-2 : tie.Need-text-at-requires-2
+text-at-requires-2 c κs = search needs
 
-element-copy-out-text-of-3 : tie.Need-element-copy-out-text-of-3
-element-copy-out-text-of-3 c = search needs
+text-at-requires-3 : tie.Need-text-at-requires-3
+text-at-requires-3 c κs = search needs
 
-text-of-requires : tie.Need-text-of-requires
-text-of-requires c κs = search needs
+text-at-requires-4 : tie.Need-text-at-requires-4
+text-at-requires-4 c κs = search needs
 
-element-copy-out-text-of-4 : tie.Need-element-copy-out-text-of-4
-element-copy-out-text-of-4 c = search needs
-
-element-copy-out-text-of-5 : tie.Need-element-copy-out-text-of-5
-element-copy-out-text-of-5 c = search needs
-
-element-copy-out-text-of-6 : tie.Need-element-copy-out-text-of-6
-element-copy-out-text-of-6 c = search needs
-
-text-of-requires-2 : tie.Need-text-of-requires-2
-text-of-requires-2 c κs = search needs
-
-element-copy-out-text-of-7 : tie.Need-element-copy-out-text-of-7
-element-copy-out-text-of-7 c = search needs
-
-element-copy-out-text-of-8 : tie.Need-element-copy-out-text-of-8
-element-copy-out-text-of-8 c = search needs
-
-element-copy-out-text-of-9 : tie.Need-element-copy-out-text-of-9
-element-copy-out-text-of-9 c = search needs
-
-text-of-requires-3 : tie.Need-text-of-requires-3
-text-of-requires-3 c κs = search needs
-
-element-copy-out-text-of-10 : tie.Need-element-copy-out-text-of-10
-element-copy-out-text-of-10 c = search needs
-
-element-copy-out-text-of-11 : tie.Need-element-copy-out-text-of-11
-element-copy-out-text-of-11 c = search needs
-
-element-copy-out-text-of-12 : tie.Need-element-copy-out-text-of-12
-element-copy-out-text-of-12 c = search needs
-
-text-of-requires-4 : tie.Need-text-of-requires-4
-text-of-requires-4 c κs = search needs
-
-element-copy-out-text-of-13 : tie.Need-element-copy-out-text-of-13
-element-copy-out-text-of-13 c = search needs
-
-element-copy-out-text-of-14 : tie.Need-element-copy-out-text-of-14
-element-copy-out-text-of-14 c = search needs
-
-element-copy-out-text-of-15 : tie.Need-element-copy-out-text-of-15
-element-copy-out-text-of-15 c = search needs
-
-text-of-requires-5 : tie.Need-text-of-requires-5
-text-of-requires-5 c κs = search needs
+text-at-requires-5 : tie.Need-text-at-requires-5
+text-at-requires-5 c κs = search needs
 
 element-copy-out-ssl-mode-of : tie.Need-element-copy-out-ssl-mode-of
 element-copy-out-ssl-mode-of c = search needs
@@ -102,32 +57,14 @@ element-copy-out-load-balance-hosts-of c = search needs
 load-balance-hosts-of-requires : tie.Need-load-balance-hosts-of-requires
 load-balance-hosts-of-requires c κs = search needs
 
-element-copy-out-time-of : tie.Need-element-copy-out-time-of
-element-copy-out-time-of c = search needs
+time-at-requires : tie.Need-time-at-requires
+time-at-requires c κs = search needs
 
-element-copy-out-time-of-2 : tie.Need-element-copy-out-time-of-2
-element-copy-out-time-of-2 c = search needs
+time-at-requires-2 : tie.Need-time-at-requires-2
+time-at-requires-2 c κs = search needs
 
-time-of-requires : tie.Need-time-of-requires
-time-of-requires c κs = search needs
-
-element-copy-out-time-of-3 : tie.Need-element-copy-out-time-of-3
-element-copy-out-time-of-3 c = search needs
-
-element-copy-out-time-of-4 : tie.Need-element-copy-out-time-of-4
-element-copy-out-time-of-4 c = search needs
-
-time-of-requires-2 : tie.Need-time-of-requires-2
-time-of-requires-2 c κs = search needs
-
-element-copy-out-time-of-5 : tie.Need-element-copy-out-time-of-5
-element-copy-out-time-of-5 c = search needs
-
-element-copy-out-time-of-6 : tie.Need-element-copy-out-time-of-6
-element-copy-out-time-of-6 c = search needs
-
-time-of-requires-3 : tie.Need-time-of-requires-3
-time-of-requires-3 c κs = search needs
+time-at-requires-3 : tie.Need-time-at-requires-3
+time-at-requires-3 c κs = search needs
 
 element-copy-out-hosts-of : tie.Need-element-copy-out-hosts-of
 element-copy-out-hosts-of c = search needs
@@ -141,33 +78,32 @@ element-copy-out-addresses-of c = search needs
 addresses-of-requires : tie.Need-addresses-of-requires
 addresses-of-requires c κs = search needs
 
-element-copy-out-t37 : tie.Need-element-copy-out-t37
-element-copy-out-t37 c = search needs
+element-copy-out-t26-3 : tie.Need-element-copy-out-t26-3
+element-copy-out-t26-3 c = search needs
 
-element-copy-out-t40 : tie.Need-element-copy-out-t40
-element-copy-out-t40 c = search needs
+element-copy-out-t57 : tie.Need-element-copy-out-t57
+element-copy-out-t57 c = search needs
 
 returns : tie.Need-returns
 returns c =
     let addresses = c .before .before in
     let hosts = addresses .before .before .before .before in
     let interval = hosts .before .before .before in
-    let tcp = interval .before .before .before in
-    let connect = tcp .before .before .before in
-    let balance = connect .before .before .before in
+    let tcp = interval .before in
+    let connect = tcp .before in
+    let balance = connect .before in
     let binding = balance .before .before in
     let attrs = binding .before .before in
     let negotiation = attrs .before .before in
     let mode = negotiation .before .before in
     let name = mode .before .before in
-    let options = name .before .before .before .before in
-    let dbname = options .before .before .before .before in
-    let password = dbname .before .before .before .before in
-    let user = password .before .before .before .before in
-    let start = user .before .before .before .before .before .before .before .before in
-    let r = start .args in
+    let options = name .before in
+    let dbname = options .before in
+    let password = dbname .before in
+    let user = password .before in
+    let r = user .before .before .before .before .before .args in
     config-made (r .fields .now) (r .hosts .now) (r .sixes .now) (r .fours .now) (r .ports .now)
-    (user .text-of .ensures) (password .text-of2 .ensures) (dbname .text-of3 .ensures) (options .text-of4 .ensures) (name .text-of5 .ensures) (mode .ssl-mode-of .ensures) (negotiation .ssl-negotiation-of .ensures) (attrs .target-session-attrs-of .ensures) (binding .channel-binding-of .ensures) (balance .load-balance-hosts-of .ensures) (connect .time-of .ensures) (tcp .time-of2 .ensures) (interval .time-of3 .ensures) (hosts .hosts-of .ensures) (addresses .addresses-of .ensures)
+    (user .text-at .ensures) (password .text-at2 .ensures) (dbname .text-at3 .ensures) (options .text-at4 .ensures) (name .text-at5 .ensures) (mode .ssl-mode-of .ensures) (negotiation .ssl-negotiation-of .ensures) (attrs .target-session-attrs-of .ensures) (binding .channel-binding-of .ensures) (balance .load-balance-hosts-of .ensures) (connect .time-at .ensures) (tcp .time-at2 .ensures) (interval .time-at3 .ensures) (hosts .hosts-of .ensures) (addresses .addresses-of .ensures)
 
 pub config-of-spec : {M : Type 1} → statement M
 config-of-spec =
@@ -176,26 +112,11 @@ config-of-spec =
     element-copy-out-t26
     element-copy-out-t26-2
     element-copy-out-t32
-    element-copy-out-text-of
-    element-copy-out-text-of-2
-    element-copy-out-text-of-3
-    text-of-requires
-    element-copy-out-text-of-4
-    element-copy-out-text-of-5
-    element-copy-out-text-of-6
-    text-of-requires-2
-    element-copy-out-text-of-7
-    element-copy-out-text-of-8
-    element-copy-out-text-of-9
-    text-of-requires-3
-    element-copy-out-text-of-10
-    element-copy-out-text-of-11
-    element-copy-out-text-of-12
-    text-of-requires-4
-    element-copy-out-text-of-13
-    element-copy-out-text-of-14
-    element-copy-out-text-of-15
-    text-of-requires-5
+    text-at-requires
+    text-at-requires-2
+    text-at-requires-3
+    text-at-requires-4
+    text-at-requires-5
     element-copy-out-ssl-mode-of
     ssl-mode-of-requires
     element-copy-out-ssl-negotiation-of
@@ -206,19 +127,13 @@ config-of-spec =
     channel-binding-of-requires
     element-copy-out-load-balance-hosts-of
     load-balance-hosts-of-requires
-    element-copy-out-time-of
-    element-copy-out-time-of-2
-    time-of-requires
-    element-copy-out-time-of-3
-    element-copy-out-time-of-4
-    time-of-requires-2
-    element-copy-out-time-of-5
-    element-copy-out-time-of-6
-    time-of-requires-3
+    time-at-requires
+    time-at-requires-2
+    time-at-requires-3
     element-copy-out-hosts-of
     hosts-of-requires
     element-copy-out-addresses-of
     addresses-of-requires
-    element-copy-out-t37
-    element-copy-out-t40
+    element-copy-out-t26-3
+    element-copy-out-t57
     returns)
