@@ -9,6 +9,7 @@ use texts::Text;
 
 extern "C" {
     fn nyimbrak_answer(text: *const u8, tn: usize, decode: *mut u8, dn: usize) -> u64;
+    fn nyimbrak_place(text: *const u8, tn: usize, decode: *mut u8, dn: usize, key: u32) -> u64;
     fn nyimbrak_read(text: *const u8, tn: usize, decode: *mut u8, dn: usize, report: *mut u8, rn: usize) -> u32;
 }
 
@@ -27,6 +28,11 @@ fn nothing(job: &mut Job) {
 
 fn answer(job: &mut Job) {
     job.number = unsafe { nyimbrak_answer(job.text.as_ptr(), job.text.len(), job.decode.as_mut_ptr(), job.decode.len()) };
+}
+
+/// The record is made, and one of its places told.
+fn place(job: &mut Job) {
+    job.number = unsafe { nyimbrak_place(job.text.as_ptr(), job.text.len(), job.decode.as_mut_ptr(), job.decode.len(), 1) };
 }
 
 fn read(job: &mut Job) {
@@ -48,8 +54,8 @@ fn drop_it(job: &mut Job) {
 type Call = fn(&mut Job);
 
 /// Each measured call by its name.
-const CALLS: [(&str, Call); 5] =
-    [("nothing", nothing), ("answer", answer), ("read", read), ("from_str", from_str), ("drop", drop_it)];
+const CALLS: [(&str, Call); 6] =
+    [("nothing", nothing), ("answer", answer), ("place", place), ("read", read), ("from_str", from_str), ("drop", drop_it)];
 
 /// The same call, which the compiler can't know, so that each is called alike.
 fn opaque(call: Call) -> Call {

@@ -7,6 +7,7 @@ import sys
 
 BEGIN, END = "<!-- figures of make bench, from here -->", "<!-- up to here -->"
 READERS = ["answer", "read", "from_str"]
+COLUMNS = ["answer", "place", "read", "from_str"]
 TITLES = {"answer": "reader", "read": "reader with report", "from_str": "Rust"}
 COLOURS = {"answer": "#1b6ca8", "read": "#7fb2d9", "from_str": "#c8553d"}
 
@@ -48,8 +49,8 @@ def number(n):
 def of_texts(texts):
     body = []
     for (name, size), f in texts.items():
-        body.append([name, number(size)] + [number(f[r]) for r in READERS] + [f"{f[r] / f['from_str']:.2f}" for r in READERS[:2]] + [number(f["drop"])])
-    return table(["text", "bytes", "reader", "with report", "Rust", "reader / Rust", "with report / Rust", "Rust's drop"], body)
+        body.append([name, number(size)] + [number(f[r]) for r in COLUMNS] + [f"{f[r] / f['from_str']:.2f}" for r in COLUMNS[:3]] + [number(f["drop"])])
+    return table(["text", "bytes", "reader", "with record", "with report", "Rust", "reader / Rust", "record / Rust", "report / Rust", "Rust's drop"], body)
 
 
 def of_growth(growing):
