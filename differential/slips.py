@@ -363,7 +363,7 @@ fn last_at_sign(s: &[u8], at: usize) -> usize {
 """),
     ]),
     ("idle_of_an_hour_by_default", [
-        ("reader", "    7200,\n", "    3600,\n"),
+        ("rows", "        7200,\n", "        3600,\n"),
     ]),
     # the report
     ("password_shown", [

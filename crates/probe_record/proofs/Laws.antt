@@ -11,8 +11,8 @@ use borrow.Author.Tests.{eq-eqb, ne-eqb, lt-ltb, le-ltb}
 use Rattle.byte.specs.Byte.{pick, partOf}
 use Rattle.names.specs.Find.{keyNumber}
 use Rattle.lists.specs.declared.Fault.{Fault}
-use Rattle.lists.specs.declared.Fault.the-variants.{NoFault, UnknownKey, Word, Form, Range, NoAddress, ManyHosts, ManyHostaddrs, ManyPorts}
 use Rattle.lists.specs.Fault.{isFine, numberOf, keyOf}
+use Rattle.lists.proofs.Faults.{fault-numbered}
 use Rattle.config.specs.declared.Config.{Config}
 use Rattle.config.specs.Config.{defaults}
 use Rattle.apply.specs.Apply.{applied, sslModeOf, sslNegotiationOf, targetSessionAttrsOf, channelBindingOf, loadBalanceHostsOf}
@@ -38,21 +38,9 @@ module _ (l : List ℕ) (at : ℕ) where
 abbrev pub on : ℕ → Config → Settled
 on at c = record { number = 0; key = 0; at = at; config = c }
 
--- a fault has a number
-numbered : (f : Fault) → isFine f ≡ false → numberOf f ≡ 0 → ⊥
-numbered NoFault e z = let q : _≡_ {A = ℕ} 0 1 = cc in omega arith
-numbered UnknownKey e z = omega arith
-numbered Word e z = omega arith
-numbered Form e z = omega arith
-numbered Range e z = omega arith
-numbered NoAddress e z = omega arith
-numbered ManyHosts e z = omega arith
-numbered ManyHostaddrs e z = omega arith
-numbered ManyPorts e z = omega arith
-
 -- no record is promised of a refusal
 pub no-record : {A : Type 0} → (f : Fault) → isFine f ≡ false → (r : ℕ) → r ≡ numberOf f → r ≡ 0 → A
-no-record f e r q z = absurd (numbered f e (sym q ∙ z))
+no-record f e r q z = absurd (fault-numbered f e (sym q ∙ z))
 
 module _ (l : List ℕ) where
   settled-step : (n : ℕ) (s : Settled) → 0 < n → settled n l s ≡ settled (n - 1) l (stepOf l s)
@@ -97,7 +85,7 @@ module _ (n : ℕ) (l : List ℕ) (at : ℕ) (c : Config) where
     pub refuses : isFine f ≡ false → settled n l (on at c) ≡ refusal (record { number = numberOf f; key = keyOf f (g .kind); at = at })
     refuses e =
         let q : stepOf l (on at c) ≡ refusal (record { number = numberOf f; key = keyOf f (g .kind); at = at }) = step-on ∙ rw (sym (x .0), e) in
-        settled-step l n (on at c) h ∙ ap (settled (n - 1) l) q ∙ settled-still l (n - 1) _ (step-refused l _ (numbered f e))
+        settled-step l n (on at c) h ∙ ap (settled (n - 1) l) q ∙ settled-still l (n - 1) _ (step-refused l _ (fault-numbered f e))
 
 -- a refusal says no more than its number, its key and its place
 abbrev Plain : Settled → Type 0
@@ -126,13 +114,6 @@ module _ (n : ℕ) (l : List ℕ) (e : Reached) (is : e ≡ reachedOf (settled n
   pub whole : (x : Config) → x ≡ settled n l first .config
       → _≡_ {A = Settled} (record { number = e .number; key = e .key; at = e .at; config = x }) (settled n l first)
   whole x q = rw (is, q)
-
--- the record that the first rows stand for
-pub first-rows : configOf
-    (0 ∷ 0 ∷ 0 ∷ 0 ∷ 0 ∷ 0 ∷ 0 ∷ 0 ∷ 0 ∷ 0 ∷ 0 ∷ 0 ∷ 0 ∷ 0 ∷ 0 ∷ 2 ∷ 1 ∷ 1 ∷ 2 ∷ 1 ∷ 0 ∷ 0 ∷ 0 ∷ 0 ∷ 0 ∷ 0 ∷ 7200 ∷ 1 ∷ 0 ∷ 0 ∷ 0 ∷ 0 ∷ [])
-    (replicate 48 0) (replicate 48 0) (replicate 17 0) (replicate 16 0) ≡ defaults
-unfolding configOf hostsOf addressesOf defaults
-first-rows = refl
 
 -- what is told of a state that is known, and what its report leaves
 pub told-of : (s t : Settled) → s ≡ t → (l d e : List ℕ) (room : ℕ) (a : Answer) → a ≡ reported l (s .config) room → e ≡ reportedInto l (s .config) d

@@ -146,47 +146,11 @@ fn refuse(e: Reached) -> Settled
     }
 }
 
-// The first row of the default record: sslmode 2, sslnegotiation 1, target_session_attrs 1, channel_binding 2, load_balance_hosts 1, keepalives_idle 7200, keepalives 1.
-const FIRST: [usize; 32] = [
-    0,
-    0,
-    0,
-    0,
-    0,
-    0,
-    0,
-    0,
-    0,
-    0,
-    0,
-    0,
-    0,
-    0,
-    0,
-    2,
-    1,
-    1,
-    2,
-    1,
-    0,
-    0,
-    0,
-    0,
-    0,
-    0,
-    7200,
-    1,
-    0,
-    0,
-    0,
-    0,
-];
-
 // The first n settings of a list.
 fn settle(n: usize, list: &[u8]) -> Settled
     ensures { λ r. ⌜ r ≡ settled n (now (list .entry)) first ⌝ }
 {
-    let mut fields = FIRST;
+    let mut fields = rows::first_fields();
     let mut hosts = [0usize; 48];
     let mut sixes = [0u64; 48];
     let mut fours = [0u32; 17];

@@ -12,7 +12,6 @@ use Rattle.byte.specs.Byte.{partOf}
 use Rattle.byte.specs.Put.{written}
 use Rattle.url.specs.declared.Url.{Url}
 use Rattle.lists.specs.declared.Fault.{Fault}
-use Rattle.lists.specs.declared.Fault.the-variants.{NoFault, UnknownKey, Word, Form, Range, NoAddress, ManyHosts, ManyHostaddrs, ManyPorts}
 use Rattle.lists.specs.Fault.{isFine, numberOf, keyOf}
 use Rattle.config.specs.declared.Config.{Config}
 use Rattle.apply.specs.declared.Applied.{Applied}
@@ -32,18 +31,6 @@ use Rattle.reader.proofs.Answers.{refused-text, end-fine, end-broken}
 -- the count stays far below the largest number
 pub count-fits : (s d₀ : List ℕ) (uri : Bool) (d : List ℕ) (st : State) (n : ℕ) → Going s d₀ uri 8194 d st n → Fits w64 (n + 1)
 count-fits s d₀ uri d st n g = record { fits = omega (arith, g .counted) }
-
--- a fault has a number
-pub fault-numbered : (f : Fault) → isFine f ≡ false → numberOf f ≡ 0 → ⊥
-fault-numbered NoFault e z = let q : _≡_ {A = ℕ} 0 1 = cc in omega arith
-fault-numbered UnknownKey e z = omega arith
-fault-numbered Word e z = omega arith
-fault-numbered Form e z = omega arith
-fault-numbered Range e z = omega arith
-fault-numbered NoAddress e z = omega arith
-fault-numbered ManyHosts e z = omega arith
-fault-numbered ManyHostaddrs e z = omega arith
-fault-numbered ManyPorts e z = omega arith
 
 abbrev pub state : Config → ℕ → Url → State
 state c at u = record { config = c; packed = at; url = u }

@@ -1,11 +1,11 @@
--- A refused text: its record is the default one, so that its number, key and count are all that it says; and the rows that stand for the default record.
+-- A refused text: its record is the default one, so that its number, key and count are all that it says.
 -- Assumes nothing.
 use Prim.Native.Nat.{ℕ, _+_, _≤_, _<_}
 use mathlib.Core.Path.{_≡_, refl, sym, ap, _∙_}
 use mathlib.Core.Bool.{Bool, true, false}
 use mathlib.Core.List.{List, [], _∷_, _++_}
 use lib.Dec.{eqb, ltb}
-use lib.ListN.{length, replicate}
+use lib.ListN.{length}
 use borrow.Author.Tests.{eqb-true}
 use Rattle.byte.specs.Byte.{pick}
 use Rattle.utf8.specs.Utf8.{wellFormed}
@@ -13,8 +13,7 @@ use Rattle.setting.specs.Setting.{Setting, kindOf, valueOf}
 use Rattle.lists.specs.Fault.{isFine, numberOf, keyOf}
 use Rattle.config.specs.declared.Config.{Config}
 use Rattle.config.specs.Config.{defaults}
-use Rattle.apply.specs.Apply.{applied, sslModeOf, sslNegotiationOf, targetSessionAttrsOf, channelBindingOf, loadBalanceHostsOf}
-use Rattle.rows.specs.Rows.{hostsOf, addressesOf, configOf}
+use Rattle.apply.specs.Apply.{applied}
 use Rattle.reader.specs.declared.Answer.{Answer}
 use Rattle.reader.specs.declared.Ending.{Ending}
 use Rattle.reader.specs.Ending.{endingOf}
@@ -63,10 +62,3 @@ module _ (s : List ℕ) (room : ℕ) where
 -- an answer is its ending and its record
 pub whole : (a : Answer) (e : Ending) → e ≡ endingOf a → (x : Config) → x ≡ a .config → _≡_ {A = Answer} (record { number = e .number; key = e .key; count = e .count; config = x }) a
 whole a e is x q = rw (is, q)
-
--- the record that the first rows stand for
-pub first-rows : configOf
-    (0 ∷ 0 ∷ 0 ∷ 0 ∷ 0 ∷ 0 ∷ 0 ∷ 0 ∷ 0 ∷ 0 ∷ 0 ∷ 0 ∷ 0 ∷ 0 ∷ 0 ∷ 2 ∷ 1 ∷ 1 ∷ 2 ∷ 1 ∷ 0 ∷ 0 ∷ 0 ∷ 0 ∷ 0 ∷ 0 ∷ 7200 ∷ 1 ∷ 0 ∷ 0 ∷ 0 ∷ 0 ∷ [])
-    (replicate 48 0) (replicate 48 0) (replicate 17 0) (replicate 16 0) ≡ defaults
-unfolding configOf hostsOf addressesOf defaults
-first-rows = refl

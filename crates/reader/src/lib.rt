@@ -153,48 +153,12 @@ fn read_rows(
     read_settings(text, decode, fields, hosts, sixes, fours, ports)
 }
 
-// The first row of the default record: sslmode 2, sslnegotiation 1, target_session_attrs 1, channel_binding 2, load_balance_hosts 1, keepalives_idle 7200, keepalives 1.
-const FIRST: [usize; 32] = [
-    0,
-    0,
-    0,
-    0,
-    0,
-    0,
-    0,
-    0,
-    0,
-    0,
-    0,
-    0,
-    0,
-    0,
-    0,
-    2,
-    1,
-    1,
-    2,
-    1,
-    0,
-    0,
-    0,
-    0,
-    0,
-    0,
-    7200,
-    1,
-    0,
-    0,
-    0,
-    0,
-];
-
 // A text's number, key and count, and no record.
 pub fn judge(text: &[u8], decode: &mut [u8]) -> Ending
     ensures { λ r. ⌜ r ≡ endingOf (answer (now (text .entry)) (length (now (decode .entry)))) ⌝ }
     ensures { λ _. ⌜ now (decode .exit) ≡ left (now (text .entry)) (now (decode .entry)) ⌝ }
 {
-    let mut fields = FIRST;
+    let mut fields = rows::first_fields();
     let mut hosts = [0usize; 48];
     let mut sixes = [0u64; 48];
     let mut fours = [0u32; 17];
@@ -228,7 +192,7 @@ pub fn read(text: &[u8], decode: &mut [u8]) -> Answer
     ensures { λ r. ⌜ r ≡ answer (now (text .entry)) (length (now (decode .entry))) ⌝ }
     ensures { λ _. ⌜ now (decode .exit) ≡ left (now (text .entry)) (now (decode .entry)) ⌝ }
 {
-    let mut fields = FIRST;
+    let mut fields = rows::first_fields();
     let mut hosts = [0usize; 48];
     let mut sixes = [0u64; 48];
     let mut fours = [0u32; 17];

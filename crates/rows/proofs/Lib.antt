@@ -1,3 +1,4 @@
 pub mod Cells
 pub mod Filled
 pub mod Made
+pub mod First

@@ -73,3 +73,7 @@ configOf f hosts sixes fours ports =
       «channel_binding» = record { word = channelBindingOf (getD f 18 0) };
       «load_balance_hosts» = record { word = loadBalanceHostsOf (getD f 19 0) };
     }
+
+-- the row `fields` of the default record; its other rows are zeros
+unfoldable pub firstFields : List ℕ
+firstFields = 0 ∷ 0 ∷ 0 ∷ 0 ∷ 0 ∷ 0 ∷ 0 ∷ 0 ∷ 0 ∷ 0 ∷ 0 ∷ 0 ∷ 0 ∷ 0 ∷ 0 ∷ 2 ∷ 1 ∷ 1 ∷ 2 ∷ 1 ∷ 0 ∷ 0 ∷ 0 ∷ 0 ∷ 0 ∷ 0 ∷ 7200 ∷ 1 ∷ 0 ∷ 0 ∷ 0 ∷ 0 ∷ []

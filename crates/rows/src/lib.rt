@@ -3,7 +3,7 @@ ghost use mathlib.Core.Path.{_≡_};
 ghost use Prim.Native.Nat.{_<_};
 ghost use lib.ListN.{length, drop};
 ghost use Rattle.apply.specs.Apply.{sslModeOf, sslNegotiationOf, targetSessionAttrsOf, channelBindingOf, loadBalanceHostsOf};
-ghost use Rattle.rows.specs.Rows.{textAt, timeAt, hostAt, hostsOf, addressAt, addressesOf, configOf};
+ghost use Rattle.rows.specs.Rows.{textAt, timeAt, hostAt, hostsOf, addressAt, addressesOf, configOf, firstFields};
 use address::Address;
 use address::Kind;
 use config::ChannelBinding;
@@ -251,4 +251,45 @@ pub fn config_of(
         channel_binding: channel_binding,
         load_balance_hosts: load_balance_hosts,
     }
+}
+
+// The row `fields` of the default record: sslmode 2, sslnegotiation 1, target_session_attrs 1, channel_binding 2, load_balance_hosts 1,
+// keepalives_idle 7200, keepalives 1.
+pub fn first_fields() -> [usize; 32]
+    ensures { λ r. ⌜ r ≡ firstFields ⌝ }
+{
+    [
+        0,
+        0,
+        0,
+        0,
+        0,
+        0,
+        0,
+        0,
+        0,
+        0,
+        0,
+        0,
+        0,
+        0,
+        0,
+        2,
+        1,
+        1,
+        2,
+        1,
+        0,
+        0,
+        0,
+        0,
+        0,
+        0,
+        7200,
+        1,
+        0,
+        0,
+        0,
+        0,
+    ]
 }

@@ -1,11 +1,15 @@
+use Rattle.rows.proofs.First.{first-is}
 use mathlib.Core.Path.{_∙_}
-use Rattle.probe_record.proofs.Laws.{refused-plain, whole, first-rows}
+use Rattle.probe_record.proofs.Laws.{refused-plain, whole}
 use borrow.Author.Needs.{needs}
 use Rattle.probe_record.proofs.settle.Statement.{statement}
 use Rattle.probe_record.proofs.settle.Tie as tie
 
+first-fields-requires : tie.Need-first-fields-requires
+first-fields-requires c κs = search needs
+
 settle-rows-requires : tie.Need-settle-rows-requires
-settle-rows-requires c κs = first-rows
+settle-rows-requires c κs = first-is _ (c .before .before .before .before .before .first-fields .ensures)
 
 refuse-requires : tie.Need-refuse-requires
 refuse-requires c κs = search needs
@@ -27,6 +31,7 @@ pub settle-spec : {M : Type 1} → statement M
 settle-spec =
     tie.close
     (tie.spec
+    first-fields-requires
     settle-rows-requires
     refuse-requires
     returns

@@ -1,10 +1,13 @@
-use Rattle.reader.proofs.Refusals.{first-rows}
+use Rattle.rows.proofs.First.{first-is}
 use borrow.Author.Needs.{needs}
 use Rattle.reader.proofs.judge.Statement.{statement}
 use Rattle.reader.proofs.judge.Tie as tie
 
+first-fields-requires : tie.Need-first-fields-requires
+first-fields-requires c κs = search needs
+
 read-rows-requires : tie.Need-read-rows-requires
-read-rows-requires c κs = first-rows
+read-rows-requires c κs = first-is _ (c .before .before .before .before .before .before .first-fields .ensures)
 
 same-length : tie.Need-same-length
 same-length c = search needs
@@ -13,4 +16,4 @@ returns : tie.Need-returns
 returns c = search needs
 
 pub judge-spec : {M : Type 1} → statement M
-judge-spec = tie.close (tie.spec read-rows-requires same-length returns)
+judge-spec = tie.close (tie.spec first-fields-requires read-rows-requires same-length returns)

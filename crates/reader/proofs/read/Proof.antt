@@ -1,11 +1,15 @@
+use Rattle.rows.proofs.First.{first-is}
 use mathlib.Core.Path.{_∙_}
-use Rattle.reader.proofs.Refusals.{refused-plain, whole, first-rows}
+use Rattle.reader.proofs.Refusals.{refused-plain, whole}
 use borrow.Author.Needs.{needs}
 use Rattle.reader.proofs.read.Statement.{statement}
 use Rattle.reader.proofs.read.Tie as tie
 
+first-fields-requires : tie.Need-first-fields-requires
+first-fields-requires c κs = search needs
+
 read-rows-requires : tie.Need-read-rows-requires
-read-rows-requires c κs = first-rows
+read-rows-requires c κs = first-is _ (c .before .before .before .before .before .before .first-fields .ensures)
 
 refuse-requires : tie.Need-refuse-requires
 refuse-requires c κs = search needs
@@ -33,6 +37,7 @@ pub read-spec : {M : Type 1} → statement M
 read-spec =
     tie.close
     (tie.spec
+    first-fields-requires
     read-rows-requires
     refuse-requires
     same-length

@@ -3,12 +3,13 @@ use mathlib.Core.Path.{refl, sym, ap, _∙_}
 use borrow.Author.Needs.{needs}
 use borrow.Author.Tests.{not-true, not-false}
 use lib.ListN.{length}
+use Rattle.lists.proofs.Faults.{fault-numbered}
 use Rattle.rows.specs.Rows.{configOf}
 use Rattle.taking.proofs.Next.{measure}
 use Rattle.reader.specs.declared.Ending.{Ending}
 use Rattle.reader.proofs.Going.{Going}
 use Rattle.reader.proofs.Answers.{begin-rows}
-use Rattle.reader.proofs.Branches.{state, count-fits, goes, refuses, end-accepts, end-refuses, no-record, fault-numbered}
+use Rattle.reader.proofs.Branches.{state, count-fits, goes, refuses, end-accepts, end-refuses, no-record}
 use Rattle.reader.proofs.read_settings.Statement.{statement}
 use Rattle.reader.proofs.read_settings.Tie as tie
 
