@@ -10,8 +10,8 @@ use lib.ListN.{length}
 use borrow.Author.Tests.{lt-ltb, le-ltb, ltb-true, ltb-false, eq-eqb, ne-eqb, eqb-true, eqb-false}
 use Rattle.byte.specs.Byte.{pick}
 use Rattle.utf8.specs.Utf8.{wellFormed}
-use Rattle.reader.specs.declared.Answer.{Answer}
-use Rattle.reader.specs.Reader.{reading, refusal, Outcome, refused, accepted, outcomeOf, answer}
+use Rattle.outcome.specs.declared.Answer.{Answer}
+use Rattle.outcome.specs.Outcome.{reading, refusal, Outcome, refused, accepted, outcomeOf, answer}
 use Rattle.demands.specs.Giving.{joined, Fails, Whole, Read, Gives, too-long, no-room, not-utf8, first-fails, end-refuses, accepts}
 use Rattle.demands.proofs.Applying.{fails-or-whole, outcome-fails, outcome-whole}
 

@@ -16,7 +16,7 @@ use Rattle.config.specs.declared.Config.{Config}
 use Rattle.config.specs.Config.{defaults}
 use Rattle.apply.specs.declared.Applied.{Applied}
 use Rattle.apply.specs.Apply.{applied}
-use Rattle.reader.specs.Reader.{reading, kept, refused, ended, outcome, outcomeOf}
+use Rattle.outcome.specs.Outcome.{reading, kept, refused, ended, outcome, outcomeOf}
 use Rattle.demands.specs.Giving.{joined, Applies, none, next, FailsFrom, Fails, WholeFrom, Whole}
 
 -- settings that can be applied, before others: they are counted, and what is kept of them is packed

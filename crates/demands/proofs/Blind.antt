@@ -7,7 +7,7 @@ use lib.ListN.{length}
 use Rattle.view.specs.Given.{Told, plain, told}
 use Rattle.view.specs.Hidden.{hiddenTold}
 use Rattle.view.proofs.Hidden.{same-told}
-use Rattle.reader.specs.Reader.{reading, answer, left}
+use Rattle.outcome.specs.Outcome.{reading, answer, left}
 use Rattle.demands.specs.Blind.{Readable, Alike, SameButPassword, tells}
 use Rattle.demands.proofs.Shows.{read-tells}
 

@@ -10,8 +10,8 @@ use lib.ListN.{length, take, drop, replicate, length-append, length-replicate}
 use Rattle.byte.specs.Put.{put}
 use Rattle.byte.proofs.Writing.{length-put, part-put, behind-put, written-room}
 use Rattle.utf8.specs.Utf8.{wellFormed}
-use Rattle.reader.specs.Reader.{reading, Outcome, outcomeOf, filled, left}
-use Rattle.reader.proofs.Answers as Answers
+use Rattle.outcome.specs.Outcome.{reading, Outcome, outcomeOf, filled, left}
+use Rattle.outcome.proofs.Answers as Answers
 use Rattle.demands.specs.Giving.{joined, Fails, Whole, Read}
 use Rattle.demands.specs.Leaving.{Leaves}
 use Rattle.demands.proofs.Kept.{kept-fits}

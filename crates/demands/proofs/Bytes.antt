@@ -32,7 +32,7 @@ use Rattle.url.proofs.Reading.{reading-start}
 use Rattle.telling.specs.Bound.{All}
 use Rattle.telling.specs.Ranged.{Bytes}
 use Rattle.telling.proofs.Shown.{all-take, all-drop}
-use Rattle.reader.specs.Reader.{reading}
+use Rattle.outcome.specs.Outcome.{reading}
 use Rattle.taking.specs.Taking.{nextAt, valueAt}
 use Rattle.taking.proofs.Next.{from, measure, Next, next-found, next-ended}
 

@@ -12,7 +12,7 @@ use Rattle.percent.specs.Percent as Percent
 use Rattle.names.specs.Find as Find
 use Rattle.split.specs.Split as Split
 use Rattle.url.specs.Uri as Uri
-use Rattle.reader.specs.Reader.{reading}
+use Rattle.outcome.specs.Outcome.{reading}
 
 abbrev commas : List ℕ
 commas = bytes "postgres://" ++ replicate 4085 44

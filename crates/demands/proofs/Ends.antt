@@ -20,7 +20,7 @@ use Rattle.url.specs.Uri.{uri}
 use Rattle.url.proofs.Ends.{UriEnd, uri-end}
 use Rattle.lists.specs.declared.Fault.{Fault}
 use Rattle.lists.specs.Fault.{isFine, numberOf}
-use Rattle.reader.specs.Reader.{reading}
+use Rattle.outcome.specs.Outcome.{reading}
 use Rattle.demands.specs.Leaving.{FaultNumber}
 
 -- the end of a reading: clean, or 6 to 12

@@ -9,8 +9,8 @@ use native.Mathlib.Omega.{arith}
 use lib.Dec.{eqb}
 use lib.ListN.{length, length-append}
 use borrow.Author.Tests.{eqb-true, eqb-false}
-use Rattle.reader.specs.declared.Answer.{Answer}
-use Rattle.reader.specs.Reader.{reading, Outcome, outcomeOf, answer}
+use Rattle.outcome.specs.declared.Answer.{Answer}
+use Rattle.outcome.specs.Outcome.{reading, Outcome, outcomeOf, answer}
 use Rattle.demands.specs.Giving.{Fails, Whole, Gives, too-long, no-room, not-utf8, first-fails, end-refuses, accepts}
 use Rattle.demands.specs.Leaving.{Fitting}
 use Rattle.demands.proofs.Kept.{kept-fits, settings-fit}

@@ -30,7 +30,7 @@ use Rattle.apply.specs.Apply.{secondsOf, secondsRead, secondsIn, idleAfter}
 use Rattle.view.specs.Given.{entriesOf, hostValue, hostPieces, oneHostPiece, addressPieces, portPieces, timeGiven, retriesGiven, refused, given, Told, plain, tellRefusal, told}
 use Rattle.telling.specs.Bound.{All, Maybe}
 use Rattle.telling.specs.Ranged.{Bytes, Small, NamedBytes, HostsBytes, SmallKind, SmallAddresses, Ranged}
-use Rattle.reader.specs.Reader.{reading, answer, left}
+use Rattle.outcome.specs.Outcome.{reading, answer, left}
 use Rattle.demands.specs.Blind.{Readable, tells}
 use Rattle.demands.proofs.Bytes.{picked, all-append, well-bytes, Valued, valued}
 use Rattle.demands.proofs.Shows.{read-tells}

@@ -22,7 +22,7 @@ use Rattle.url.specs.Step.{url}
 use Rattle.url.specs.Uri.{uri}
 use Rattle.url.proofs.Reading.{reading-start, left-start}
 use Rattle.taking.specs.Taking.{keeps}
-use Rattle.reader.specs.Reader.{reading, kept}
+use Rattle.outcome.specs.Outcome.{reading, kept}
 use Rattle.taking.specs.Taking.{nextAt}
 use Rattle.taking.proofs.Next.{from, measure, Next, next-found, next-ended}
 use Rattle.demands.specs.Giving.{joined}

@@ -9,8 +9,8 @@ use native.Mathlib.Omega.{arith}
 use lib.ListN.{length}
 use Rattle.utf8.specs.Utf8.{wellFormed}
 use Rattle.lists.specs.Fault.{numberOf}
-use Rattle.reader.specs.declared.Answer.{Answer}
-use Rattle.reader.specs.Reader.{reading, answer}
+use Rattle.outcome.specs.declared.Answer.{Answer}
+use Rattle.outcome.specs.Outcome.{reading, answer}
 use Rattle.demands.specs.Giving.{Fails, Whole, Read, Gives, too-long, no-room, not-utf8, first-fails, end-refuses, accepts}
 use Rattle.demands.specs.Leaving.{FaultNumber}
 use Rattle.demands.proofs.Answering.{gives, answers}

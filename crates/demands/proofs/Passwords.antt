@@ -24,10 +24,10 @@ use Rattle.keyvalue.specs.KeyValue as KeyValue
 use Rattle.keyvalue.specs.Scan as Scan
 use Rattle.url.specs.Uri as Uri
 use Rattle.taking.specs.Taking as Taking
-use Rattle.reader.specs.Reader as Reader
+use Rattle.outcome.specs.Outcome as Reader
 use Rattle.setting.specs.Setting.{Reading}
 use Rattle.view.specs.Hidden as Hidden
-use Rattle.reader.specs.Reader.{reading}
+use Rattle.outcome.specs.Outcome.{reading}
 
 abbrev Pair : Type 0
 Pair = String × String

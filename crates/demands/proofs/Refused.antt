@@ -11,9 +11,9 @@ use borrow.Author.Tests.{ne-eqb, eq-eqb}
 use Rattle.setting.specs.Setting.{kindOf, valueOf}
 use Rattle.lists.specs.declared.Fault.{Fault}
 use Rattle.lists.specs.Fault.{isFine, numberOf, keyOf}
-use Rattle.reader.specs.declared.Answer.{Answer}
-use Rattle.reader.specs.Reader.{answer, left}
-use Rattle.reader.proofs.Answers as Answers
+use Rattle.outcome.specs.declared.Answer.{Answer}
+use Rattle.outcome.specs.Outcome.{answer, left}
+use Rattle.outcome.proofs.Answers as Answers
 use Rattle.demands.specs.Giving.{joined, Fails, Reason, Read, Gives, too-long, no-room, not-utf8, first-fails, end-refuses, accepts}
 use Rattle.demands.specs.Leaving.{Leaves, Names, Refused, Accepted, Refusing}
 use Rattle.demands.proofs.Reasons.{reason, reason-five, reason-four}

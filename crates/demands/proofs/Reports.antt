@@ -12,7 +12,7 @@ use Rattle.report.specs.declared.Answer.{Answer}
 use Rattle.report.specs.Report.{report}
 use Rattle.report.specs.Answer.{reported, reportedInto}
 use Rattle.telling.proofs.Told as Told
-use Rattle.reader.specs.Reader.{reading, answer, left}
+use Rattle.outcome.specs.Outcome.{reading, answer, left}
 use Rattle.demands.specs.Blind.{Readable, Alike}
 use Rattle.demands.proofs.Shows.{read-sound}
 use Rattle.demands.proofs.Blind.{blind}

@@ -26,7 +26,7 @@ use Rattle.keyvalue.specs.KeyValue as KeyValue
 use Rattle.keyvalue.specs.Scan as Scan
 use Rattle.url.specs.Uri as Uri
 use Rattle.taking.specs.Taking as Taking
-use Rattle.reader.specs.Reader as Reader
+use Rattle.outcome.specs.Outcome as Reader
 use Rattle.draw.specs.Parts as Parts
 use Rattle.escape.specs.Escape as Escape
 use Rattle.lines.specs.Line as Line

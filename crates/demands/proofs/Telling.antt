@@ -19,9 +19,9 @@ use Rattle.report.specs.Report.{report}
 use Rattle.report.specs.Answer.{reported, reportedInto}
 use Rattle.report.proofs.Exactly.{told-length, stands-in-front}
 use Rattle.telling.proofs.Told.{telling}
-use Rattle.reader.specs.declared.Answer.{Answer}
-use Rattle.reader.specs.Reader.{reading, refusal, answer, left}
-use Rattle.reader.proofs.Answers.{too-long, no-room, not-utf8}
+use Rattle.outcome.specs.declared.Answer.{Answer}
+use Rattle.outcome.specs.Outcome.{reading, refusal, answer, left}
+use Rattle.outcome.proofs.Answers.{too-long, no-room, not-utf8}
 use Rattle.demands.specs.Blind.{Readable, Alike}
 use Rattle.demands.specs.Telling.{Run, ran, reportIn, reportOf, Reported, SameReport, Telling, DemandThree}
 use Rattle.demands.proofs.Shows.{read-sound}

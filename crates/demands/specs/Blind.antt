@@ -10,7 +10,7 @@ use Rattle.setting.specs.Setting.{Reading}
 use Rattle.config.specs.Values.{shown}
 use Rattle.view.specs.Given.{Told}
 use Rattle.view.specs.Hidden.{hidden, veil}
-use Rattle.reader.specs.declared.Answer.{Answer}
+use Rattle.outcome.specs.declared.Answer.{Answer}
 
 -- a UTF-8 text within the limits, and a decode buffer "no shorter than" it
 pub record Readable (text decode : List ℕ) : Type 0 where

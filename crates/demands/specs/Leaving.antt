@@ -10,8 +10,8 @@ use Rattle.utf8.specs.Utf8.{wellFormed}
 use Rattle.setting.specs.Setting.{kindOf, valueOf}
 use Rattle.lists.specs.Fault.{numberOf}
 use Rattle.config.specs.Config.{defaults}
-use Rattle.reader.specs.declared.Answer.{Answer}
-use Rattle.reader.specs.Reader.{reading, acceptance, outcomeOf, answer, left}
+use Rattle.outcome.specs.declared.Answer.{Answer}
+use Rattle.outcome.specs.Outcome.{reading, acceptance, outcomeOf, answer, left}
 use Rattle.demands.specs.Giving.{joined, Fails, Reason, Whole, Read, Gives}
 
 -- the decode buffer where b is packed in front: b, zeros up to the text's length, and every later byte as it was

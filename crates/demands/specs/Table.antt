@@ -14,8 +14,8 @@ use Rattle.config.specs.declared.Text.{Text}
 use Rattle.config.specs.declared.Seconds.{Seconds}
 use Rattle.config.specs.declared.Config.{Config}
 use Rattle.config.specs.Config.{nowhere, unset, never, defaults}
-use Rattle.reader.specs.declared.Answer.{Answer}
-use Rattle.reader.specs.Reader.{answer, left}
+use Rattle.outcome.specs.declared.Answer.{Answer}
+use Rattle.outcome.specs.Outcome.{answer, left}
 
 -- what a text gives: its whole answer, and the whole buffer
 pub record Given : Type 0 where

@@ -7,8 +7,8 @@ use mathlib.Core.Logic.{_↔_}
 use lib.ListN.{length, take}
 use Rattle.config.specs.Values.{Values, shown}
 use Rattle.view.specs.Hidden.{hidden}
-use Rattle.reader.specs.declared.Answer as Read
-use Rattle.reader.specs.Reader.{reading, answer, left}
+use Rattle.outcome.specs.declared.Answer as Read
+use Rattle.outcome.specs.Outcome.{reading, answer, left}
 use Rattle.report.specs.declared.Answer as Report
 use Rattle.report.specs.declared.Answer.the-variants.{Length, Short, Unsound}
 use Rattle.report.specs.Report.{report}

@@ -25,10 +25,10 @@ use Rattle.lists.specs.Fault.{isFine, numberOf, keyOf}
 use Rattle.config.specs.declared.Config.{Config}
 use Rattle.config.specs.Config.{defaults}
 use Rattle.apply.specs.Apply.{applied}
-use Rattle.reader.specs.declared.Answer.{Answer}
-use Rattle.reader.specs.declared.Ending.{Ending}
-use Rattle.reader.specs.Ending.{endingOf}
-use Rattle.reader.specs.Reader.{reading, kept, refusal, Outcome, outcome, outcomeOf, answer}
+use Rattle.outcome.specs.declared.Answer.{Answer}
+use Rattle.ending.specs.declared.Ending.{Ending}
+use Rattle.outcome.specs.Outcome.{endingOf}
+use Rattle.outcome.specs.Outcome.{reading, kept, refusal, Outcome, outcome, outcomeOf, answer}
 use Rattle.dock.proofs.Ends.{reading-end}
 
 pub record Small (a : Answer) : Type 0 where

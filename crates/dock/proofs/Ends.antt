@@ -21,7 +21,7 @@ use Rattle.keyvalue.specs.declared.Step.the-variants.{Done, Refused, Found}
 use Rattle.keyvalue.specs.Scan.{endOf, spaceLen, keyLen, quotedLen, simpleLen}
 use Rattle.keyvalue.specs.KeyValue.{keyOf, rawAt, quotedAt, simpleAt, valueAt, signAt, keyAt, parameterAt, reads, keyValueFrom, keyValue}
 use Rattle.url.specs.Uri as uri
-use Rattle.reader.specs.Reader.{reading}
+use Rattle.outcome.specs.Outcome.{reading}
 
 record End (r : Reading) : Type 0 where
   most : r .end ≤ 12

@@ -13,8 +13,8 @@ use Rattle.byte.specs.Byte.{pick}
 use Rattle.config.specs.declared.Config.{Config}
 use Rattle.config.specs.Values.{shown}
 use Rattle.config.specs.Sound.{sound}
-use Rattle.reader.specs.declared.Answer.{Answer}
-use Rattle.reader.specs.Reader.{answer}
+use Rattle.outcome.specs.declared.Answer.{Answer}
+use Rattle.outcome.specs.Outcome.{answer}
 use Rattle.report.specs.declared.Answer.{Answer as Reported}
 use Rattle.report.specs.declared.Answer.the-variants.{Length, Short, Unsound}
 use Rattle.report.specs.Report.{report}

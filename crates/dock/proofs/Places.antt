@@ -12,8 +12,8 @@ use Rattle.config.specs.declared.Text.{Text}
 use Rattle.config.specs.declared.Config.{Config}
 use Rattle.config.specs.Config.{unset}
 use Rattle.config.specs.Sound.{placeIn}
-use Rattle.reader.specs.declared.Answer.{Answer}
-use Rattle.reader.specs.Reader.{answer}
+use Rattle.outcome.specs.declared.Answer.{Answer}
+use Rattle.outcome.specs.Outcome.{answer}
 use Rattle.dock.specs.Places.{textOf, nowhere, placeOf, place}
 
 module _ (s : List ℕ) (room : ℕ) (a : Answer) (e : a ≡ answer s room) where

@@ -1,7 +1,7 @@
 -- A text's answer as one number.
 -- Assumes nothing.
 use Prim.Native.Nat.{ℕ, _+_, _*_, _^_}
-use Rattle.reader.specs.declared.Answer.{Answer}
+use Rattle.outcome.specs.declared.Answer.{Answer}
 
 -- number, key and count: a byte each for the first two
 unfoldable pub inOne : Answer → ℕ

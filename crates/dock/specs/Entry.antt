@@ -7,7 +7,7 @@ use lib.Dec.{eqb, leb}
 use lib.ListN.{length, take, drop}
 use Rattle.byte.specs.Byte.{pick, partOf}
 use Rattle.config.specs.declared.Config.{Config}
-use Rattle.reader.specs.Reader.{answer, left}
+use Rattle.outcome.specs.Outcome.{answer, left}
 use Rattle.report.specs.declared.Answer.{Answer}
 use Rattle.report.specs.declared.Answer.the-variants.{Length, Short, Unsound}
 use Rattle.report.specs.Answer.{reported, reportedInto}

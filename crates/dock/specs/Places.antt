@@ -11,7 +11,7 @@ use Rattle.config.specs.declared.Text.{Text}
 use Rattle.config.specs.declared.Config.{Config}
 use Rattle.config.specs.Config.{unset}
 use Rattle.config.specs.Sound.{placeIn}
-use Rattle.reader.specs.Reader.{answer}
+use Rattle.outcome.specs.Outcome.{answer}
 
 -- the text of each key that holds one; no other key is ever set
 unfoldable pub textOf : ℕ → Config → Text

@@ -2,7 +2,7 @@
 ghost use mathlib.Core.Path.{_≡_};
 ghost use Prim.Native.Nat.{_≤_};
 ghost use lib.ListN.{length};
-ghost use Rattle.reader.specs.Reader.{answer, left};
+ghost use Rattle.outcome.specs.Outcome.{answer, left};
 ghost use Rattle.report.specs.Answer.{reported};
 ghost use Rattle.dock.specs.Answers.{inOne};
 ghost use Rattle.dock.specs.Entry.{told, used, reportLeft, entry, entryLeft};

@@ -11,7 +11,7 @@ use lib.ListN.{length, take}
 use Rattle.byte.specs.Byte.{pick}
 use Rattle.byte.specs.Put.{written}
 use Rattle.byte.proofs.Writing.{written-room, part-put}
-use Rattle.reader.specs.Reader.{reading}
+use Rattle.outcome.specs.Outcome.{reading}
 use Rattle.dock.specs.Entry.{entry, entryLeft}
 use Rattle.telling.proofs.Told as Told
 use Rattle.demands.specs.Blind.{Readable, Alike}

@@ -18,9 +18,9 @@ use Rattle.config.specs.Config.{defaults}
 use Rattle.config.specs.Values.{shown}
 use Rattle.config.specs.Sound.{sound}
 use Rattle.view.proofs.Seen.{In, defaults-in, in-on, in-sound, shown-grows}
-use Rattle.reader.specs.declared.Answer.{Answer}
-use Rattle.reader.specs.Reader.{outcomeOf, answer, left}
-use Rattle.reader.proofs.Answers.{answered}
+use Rattle.outcome.specs.declared.Answer.{Answer}
+use Rattle.outcome.specs.Outcome.{outcomeOf, answer, left}
+use Rattle.outcome.proofs.Answers.{answered}
 use Rattle.report.specs.declared.Answer.{Answer as Reported}
 use Rattle.report.specs.Answer.{reported, reportedInto}
 use Rattle.dock.specs.Entry.{told, used, reportLeft, kept, entry, entryLeft}

@@ -11,8 +11,8 @@ use Rattle.config.specs.Config.{defaults}
 use Rattle.config.specs.Values.{Values, hostShown, shown}
 use Rattle.view.specs.Given.{Told, plain, told}
 use Rattle.view.proofs.Seen.{In, defaults-in, shown-grows}
-use Rattle.reader.specs.declared.Answer.{Answer}
-use Rattle.reader.specs.Reader.{reading, answer, left}
+use Rattle.outcome.specs.declared.Answer.{Answer}
+use Rattle.outcome.specs.Outcome.{reading, answer, left}
 use Rattle.report.specs.declared.Answer.{Answer as Reported}
 use Rattle.report.specs.Answer.{reported}
 use Rattle.telling.specs.Bound.{shownBytes, Sized}

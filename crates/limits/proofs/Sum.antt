@@ -16,7 +16,7 @@ use Rattle.lists.specs.Append.{good}
 use Rattle.config.specs.Values.{HostValue, tcp, unix, Values}
 use Rattle.view.specs.Given.{entriesOf, hostValue, hostPieces, oneHostPiece, given}
 use Rattle.taking.specs.Taking.{keeps}
-use Rattle.reader.specs.Reader.{}
+use Rattle.outcome.specs.Outcome.{}
 use Rattle.telling.specs.Bound.{nameBytes, hostBytes}
 use Rattle.limits.specs.Limits.{together, keptBytes}
 

@@ -22,7 +22,7 @@ use Rattle.setting.specs.Setting.{Setting, kindOf, valueOf}
 use Rattle.view.specs.Given.{entriesOf, portPieces, retriesGiven, refused, given, Told, plain, tellRefusal, told}
 use Rattle.view.proofs.Told.{told-end, told-on, told-off}
 use Rattle.taking.specs.Taking.{keeps}
-use Rattle.reader.specs.Reader.{kept}
+use Rattle.outcome.specs.Outcome.{kept}
 use Rattle.telling.specs.Bound.{hostBytes, All, Maybe}
 use Rattle.demands.specs.Giving.{joined}
 use Rattle.limits.specs.Limits.{keptBytes}

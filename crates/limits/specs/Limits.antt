@@ -11,7 +11,7 @@ use Rattle.byte.specs.Put.{written}
 use Rattle.config.specs.declared.Config.{Config}
 use Rattle.config.specs.Values.{HostValue, Values, shown}
 use Rattle.config.specs.Sound.{sound}
-use Rattle.reader.specs.Reader.{reading, answer, left}
+use Rattle.outcome.specs.Outcome.{reading, answer, left}
 use Rattle.report.specs.declared.Answer.{Answer}
 use Rattle.report.specs.Report.{report}
 use Rattle.report.specs.Answer.{reported}

@@ -15,8 +15,8 @@ use Rattle.byte.proofs.Parts.{part-is}
 use Rattle.byte.proofs.Writing.{length-put, written-room, part-put}
 use Rattle.utf8.specs.Utf8.{wellFormed}
 use Rattle.view.specs.Given.{Told}
-use Rattle.reader.specs.declared.Answer.{Answer}
-use Rattle.reader.proofs.Answers.{too-long, not-utf8}
+use Rattle.outcome.specs.declared.Answer.{Answer}
+use Rattle.outcome.proofs.Answers.{too-long, not-utf8}
 use Rattle.report.specs.Report.{report}
 use Rattle.dock.specs.Entry.{entry, entryLeft}
 use Rattle.demands.specs.Blind.{Readable, tells}

@@ -11,7 +11,7 @@ use Rattle.byte.specs.Ascii.{bytes}
 use Rattle.utf8.specs.Utf8.{wellFormed}
 use Rattle.decimal.specs.Decimal.{decimal}
 use Rattle.view.specs.Given.{Told, plain, told}
-use Rattle.reader.specs.Reader.{reading}
+use Rattle.outcome.specs.Outcome.{reading}
 use Rattle.report.specs.Report.{report}
 
 -- "`refused` with a blank, the number and 0x0A"

@@ -20,13 +20,14 @@ use Rattle.param.specs.Sets.{Sets}
 use Rattle.taking.specs.declared.Taken.{Taken}
 use Rattle.taking.specs.Taking.{takenOf, takenLeaves}
 use Rattle.taking.proofs.Next.{measure, slack}
-use Rattle.reader.specs.declared.Answer.{Answer}
-use Rattle.reader.specs.Reader.{outcomeOf, filled}
-use Rattle.reader.specs.Ending.{ending, endingOf}
-use Rattle.reader.specs.Steps.{State}
-use Rattle.reader.proofs.Packing.{Packed}
-use Rattle.reader.proofs.Going.{Going, go-on, go-off, at-end}
-use Rattle.reader.proofs.Answers.{refused-text, end-fine, end-broken}
+use Rattle.outcome.specs.declared.Answer.{Answer}
+use Rattle.outcome.specs.Outcome.{outcomeOf, filled}
+use Rattle.ending.specs.Ending.{ending}
+use Rattle.outcome.specs.Outcome.{endingOf}
+use Rattle.outcome.specs.Steps.{State}
+use Rattle.outcome.proofs.Packing.{Packed}
+use Rattle.outcome.proofs.Going.{Going, go-on, go-off, at-end}
+use Rattle.outcome.proofs.Answers.{refused-text, end-fine, end-broken}
 
 -- the count stays far below the largest number
 pub count-fits : (s d₀ : List ℕ) (uri : Bool) (d : List ℕ) (st : State) (n : ℕ) → Going s d₀ uri 8194 d st n → Fits w64 (n + 1)

@@ -1,5 +1,1 @@
-pub mod Packing
-pub mod Going
-pub mod Answers
 pub mod Branches
-pub mod Refusals

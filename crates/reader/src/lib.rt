@@ -1,79 +1,13 @@
 // A text read into a record: the limits, UTF-8, then its settings applied in order.
 ghost use mathlib.Core.Path.{_≡_};
-ghost use Prim.Native.Nat.{_-_, _≤_};
-ghost use lib.ListN.{length, replicate};
-ghost use Rattle.byte.specs.Put.{written};
-ghost use Rattle.lists.specs.Fault.{numberOf, keyOf};
+ghost use Prim.Native.Nat.{_≤_};
+ghost use lib.ListN.{length};
 ghost use Rattle.config.specs.Config.{defaults};
 ghost use Rattle.rows.specs.Rows.{configOf};
-ghost use Rattle.reader.specs.Reader.{refusal, outcomeOf, filled, answer, left};
-ghost use Rattle.reader.specs.Ending.{ending, endingOf};
+ghost use Rattle.outcome.specs.Outcome.{refusal, outcomeOf, filled, answer, left, endingOf};
 use config::Config;
-use lists::Fault;
-
-// What a text gives back. With a number other than 0 the record is the default one.
-pub struct Answer {
-    pub number: usize,
-    pub key: usize,
-    pub count: usize,
-    pub config: Config,
-}
-
-// The same without the record.
-pub struct Ending {
-    pub number: usize,
-    pub key: usize,
-    pub count: usize,
-}
-
-fn end(number: usize, key: usize, count: usize) -> Ending
-    ensures { λ r. ⌜ r ≡ ending number key count ⌝ }
-{
-    Ending {
-        number: number,
-        key: key,
-        count: count,
-    }
-}
-
-// What is left of `n` behind `k`, 0 where `k` is past it.
-fn rest_of(n: usize, k: usize) -> usize
-    ensures { λ r. ⌜ r ≡ n - k ⌝ }
-{
-    if k <= n { n - k } else { 0 }
-}
-
-// A text of `n` bytes refused: zeros up to its length.
-fn refuse_text(decode: &mut [u8], n: usize, number: usize, key: usize, count: usize) -> Ending
-    ensures { λ r. ⌜ r ≡ ending number key count ⌝ }
-    ensures { λ _. ⌜ now (decode .exit) ≡ written (now (decode .entry)) 0 (replicate n 0) ⌝ }
-{
-    byte::clear(decode, 0, n);
-    end(number, key, count)
-}
-
-// A text of `n` bytes refused at a setting.
-fn refuse_setting(decode: &mut [u8], n: usize, fault: Fault, kind: usize, count: usize) -> Ending
-    ensures { λ r. ⌜ r ≡ ending (numberOf fault) (keyOf fault kind) count ⌝ }
-    ensures { λ _. ⌜ now (decode .exit) ≡ written (now (decode .entry)) 0 (replicate n 0) ⌝ }
-{
-    refuse_text(
-        decode,
-        n,
-        lists::number_of(fault),
-        lists::key_of(fault, kind),
-        count,
-    )
-}
-
-// A text of `n` bytes accepted: what is packed stays, zeros up to the text's length.
-fn accept(decode: &mut [u8], n: usize, packed: usize, count: usize) -> Ending
-    ensures { λ r. ⌜ r ≡ ending 0 0 count ⌝ }
-    ensures { λ _. ⌜ now (decode .exit) ≡ written (now (decode .entry)) packed (replicate (n - packed) 0) ⌝ }
-{
-    byte::clear(decode, packed, rest_of(n, packed));
-    end(0, 0, count)
-}
+use ending::Ending;
+use outcome::Answer;
 
 // The settings of a text, applied in order to the rows.
 fn read_settings(
@@ -102,9 +36,9 @@ fn read_settings(
         if t.ended {
             let number = t.number;
             if number == 0 {
-                return accept(decode, n, packed, count);
+                return ending::accept(decode, n, packed, count);
             }
-            return refuse_text(decode, n, number, 0, count);
+            return ending::refuse_text(decode, n, number, 0, count);
         }
         let fault = param::param(
             fields,
@@ -118,7 +52,7 @@ fn read_settings(
             t.end,
         );
         if !lists::is_fine(fault) {
-            return refuse_setting(decode, n, fault, kind, count);
+            return ending::refuse_setting(decode, n, fault, kind, count);
         }
         packed = t.packed;
         url = t.next;
@@ -142,13 +76,13 @@ fn read_rows(
     ensures { λ r. ⌜ (r .number ≡ 0 → configOf (now (fields .exit)) (now (hosts .exit)) (now (sixes .exit)) (now (fours .exit)) (now (ports .exit)) ≡ answer (now (text .entry)) (length (now (decode .entry))) .config) ⌝ }
 {
     if 4096 < text.len() {
-        return end(1, 0, 0);
+        return ending::end(1, 0, 0);
     }
     if decode.len() < text.len() {
-        return end(2, 0, 0);
+        return ending::end(2, 0, 0);
     }
     if !utf8::valid(text) {
-        return refuse_text(decode, text.len(), 3, 0, 0);
+        return ending::refuse_text(decode, text.len(), 3, 0, 0);
     }
     read_settings(text, decode, fields, hosts, sixes, fours, ports)
 }

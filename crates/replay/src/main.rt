@@ -3,7 +3,7 @@
 ghost use mathlib.Core.Path.{_≡_};
 ghost use Prim.Native.Nat.{_+_, _*_, _≤_};
 use libc::STDOUT_FILENO;
-use reader::Answer;
+use outcome::Answer;
 
 // What the decode buffer has before a text is read.
 const BEFORE: [u8; 4097] = [170; 4097];

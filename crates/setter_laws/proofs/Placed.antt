@@ -18,7 +18,7 @@ use Rattle.lists.specs.Lists.{addressSlots, moreAddresses, addressKept, portSlo
 use Rattle.config.specs.declared.Config.{Config}
 use Rattle.config.specs.Config.{defaults}
 use Rattle.config.specs.Sound.{counted, textIn, hostsIn, sound}
-use Rattle.reader.specs.Reader.{answer, left}
+use Rattle.outcome.specs.Outcome.{answer, left}
 use Rattle.setters.specs.Setter.{Value, refusal, changed, set}
 use Rattle.demands.proofs.Shows.{read-in, read-sound}
 use Rattle.setter_laws.proofs.Numbers.{Fit, fit-counted, judged}

@@ -4,8 +4,8 @@ use Prim.Native.Nat.{ℕ}
 use mathlib.Core.Path.{_≡_, sym, subst, _∙_}
 use mathlib.Core.List.{List}
 use lib.ListN.{length}
-use Rattle.reader.specs.declared.Answer.{Answer}
-use Rattle.reader.specs.Reader.{answer, left}
+use Rattle.outcome.specs.declared.Answer.{Answer}
+use Rattle.outcome.specs.Outcome.{answer, left}
 use Rattle.report.specs.declared.Answer.{Answer as Told}
 use Rattle.report.specs.Answer.{reported, reportedInto}
 use Rattle.demands.specs.Telling.{Run, ran, DemandThree}

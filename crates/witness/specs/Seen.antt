@@ -3,7 +3,7 @@
 use Prim.Native.Nat.{ℕ}
 use mathlib.Core.List.{List}
 use lib.ListN.{length}
-use Rattle.reader.specs.Reader.{answer, left}
+use Rattle.outcome.specs.Outcome.{answer, left}
 use Rattle.report.specs.Answer.{reported, reportedInto}
 use Rattle.demands.specs.Telling.{Run}
 use Rattle.witness.specs.declared.Seen.{Seen}

@@ -1,13 +1,13 @@
 // Two texts read and reported: what came back meets demand 3 of the mission.
 ghost use mathlib.Core.Path.{_≡_};
 ghost use lib.ListN.{length};
-ghost use Rattle.reader.specs.Reader.{left};
+ghost use Rattle.outcome.specs.Outcome.{left};
 ghost use Rattle.demands.specs.Telling.{DemandThree};
 ghost use Rattle.witness.specs.Seen.{seenOf, bufferOf, runOf};
 
 // What a text gave: the reader's answer, and the report's over its record.
 pub struct Seen {
-    pub answer: reader::Answer,
+    pub answer: outcome::Answer,
     pub report: report::Answer,
 }
 

@@ -4,7 +4,7 @@ use Prim.Native.Nat.{_+_, _*_, _^_}
 use mathlib.Core.Path.{ap}
 use native.Mathlib.Omega.{arith}
 use borrow.Author.Needs.{needs}
-use Rattle.reader.specs.declared.Ending.{Ending}
+use Rattle.ending.specs.declared.Ending.{Ending}
 use Rattle.dock.specs.Answers.{inOne}
 use Rattle.dock.proofs.Bounds.{SmallEnding, small-ending}
 use Rattle.dock.proofs.nyimbrak_answer.Statement.{statement}

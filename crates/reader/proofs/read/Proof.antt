@@ -1,6 +1,6 @@
 use Rattle.rows.proofs.First.{first-is}
 use mathlib.Core.Path.{_∙_}
-use Rattle.reader.proofs.Refusals.{refused-plain, whole}
+use Rattle.outcome.proofs.Refusals.{refused-plain, whole}
 use borrow.Author.Needs.{needs}
 use Rattle.reader.proofs.read.Statement.{statement}
 use Rattle.reader.proofs.read.Tie as tie

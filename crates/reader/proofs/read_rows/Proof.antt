@@ -2,10 +2,10 @@ use Prim.Native.Nat.{ℕ}
 use mathlib.Core.Path.{_≡_, sym, ap, _∙_}
 use native.Mathlib.Omega.{arith}
 use borrow.Author.Tests.{not-true, not-false}
-use Rattle.reader.specs.declared.Answer.{Answer}
-use Rattle.reader.specs.declared.Ending.{Ending}
-use Rattle.reader.specs.Ending.{endingOf}
-use Rattle.reader.proofs.Answers.{too-long, no-room, not-utf8, answered}
+use Rattle.outcome.specs.declared.Answer.{Answer}
+use Rattle.ending.specs.declared.Ending.{Ending}
+use Rattle.outcome.specs.Outcome.{endingOf}
+use Rattle.outcome.proofs.Answers.{too-long, no-room, not-utf8, answered}
 use Rattle.reader.proofs.Branches.{no-record}
 use borrow.Author.Needs.{needs}
 use Rattle.reader.proofs.read_rows.Statement.{statement}

@@ -6,9 +6,9 @@ use lib.ListN.{length}
 use Rattle.lists.proofs.Faults.{fault-numbered}
 use Rattle.rows.specs.Rows.{configOf}
 use Rattle.taking.proofs.Next.{measure}
-use Rattle.reader.specs.declared.Ending.{Ending}
-use Rattle.reader.proofs.Going.{Going}
-use Rattle.reader.proofs.Answers.{begin-rows}
+use Rattle.ending.specs.declared.Ending.{Ending}
+use Rattle.outcome.proofs.Going.{Going}
+use Rattle.outcome.proofs.Answers.{begin-rows}
 use Rattle.reader.proofs.Branches.{state, count-fits, goes, refuses, end-accepts, end-refuses, no-record}
 use Rattle.reader.proofs.read_settings.Statement.{statement}
 use Rattle.reader.proofs.read_settings.Tie as tie

@@ -3,8 +3,8 @@ use lib.ListN.{replicate}
 use Prim.Native.Nat.{ℕ}
 use mathlib.Core.Path.{ap, _∙_}
 use borrow.Author.Needs.{needs}
-use Rattle.reader.proofs.accept.Statement.{statement}
-use Rattle.reader.proofs.accept.Tie as tie
+use Rattle.ending.proofs.accept.Statement.{statement}
+use Rattle.ending.proofs.accept.Tie as tie
 
 rest-of-requires : tie.Need-rest-of-requires
 rest-of-requires c κs = search needs

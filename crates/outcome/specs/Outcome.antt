@@ -16,7 +16,8 @@ use Rattle.config.specs.declared.Config.{Config}
 use Rattle.config.specs.Config.{defaults}
 use Rattle.apply.specs.Apply.{applied}
 use Rattle.taking.specs.Taking.{keeps}
-use Rattle.reader.specs.declared.Answer.{Answer}
+use Rattle.ending.specs.declared.Ending.{Ending}
+use Rattle.outcome.specs.declared.Answer.{Answer}
 
 -- "Key-value. Used unless the text starts with `postgres://` or `postgresql://`." "URI, after the prefix"
 unfoldable pub reading : List ℕ → Reading
@@ -76,3 +77,7 @@ left s d =
     pick (ltb 4096 (length s)) d
     (pick (ltb (length d) (length s)) d
     (filled s (pick (wellFormed s) (outcomeOf s .packed) []) d))
+
+-- an answer without its record
+abbrev pub endingOf : Answer → Ending
+endingOf a = record { number = a .number; key = a .key; count = a .count }

@@ -20,10 +20,10 @@ use Rattle.config.specs.declared.Config.{Config}
 use Rattle.apply.specs.declared.Applied.{Applied}
 use Rattle.apply.specs.Apply.{applied}
 use Rattle.taking.specs.declared.Taken.{Taken}
-use Rattle.reader.specs.Reader.{kept, Outcome, refused, ended, outcome, outcomeOf}
+use Rattle.outcome.specs.Outcome.{kept, Outcome, refused, ended, outcome, outcomeOf}
 use Rattle.taking.specs.Taking.{keeps, nextAt, valueAt, takenBy, leftBy, takenOf, takenLeaves}
-use Rattle.reader.specs.Steps.{State}
-use Rattle.reader.proofs.Packing.{Packed, value-written, value-after, value-stands, value-left, value-packed}
+use Rattle.outcome.specs.Steps.{State}
+use Rattle.outcome.proofs.Packing.{Packed, value-written, value-after, value-stands, value-left, value-packed}
 use Rattle.taking.proofs.Next.{from, measure, slack, Next, next-found, next-ended}
 
 -- d₀ is the buffer at first, d the buffer now, n settings are applied, and with those that can still come they are at most m

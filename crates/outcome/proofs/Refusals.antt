@@ -14,10 +14,10 @@ use Rattle.lists.specs.Fault.{isFine, numberOf, keyOf}
 use Rattle.config.specs.declared.Config.{Config}
 use Rattle.config.specs.Config.{defaults}
 use Rattle.apply.specs.Apply.{applied}
-use Rattle.reader.specs.declared.Answer.{Answer}
-use Rattle.reader.specs.declared.Ending.{Ending}
-use Rattle.reader.specs.Ending.{endingOf}
-use Rattle.reader.specs.Reader.{kept, refusal, Outcome, refused, accepted, ended, outcome, outcomeOf, answer}
+use Rattle.outcome.specs.declared.Answer.{Answer}
+use Rattle.ending.specs.declared.Ending.{Ending}
+use Rattle.outcome.specs.Outcome.{endingOf}
+use Rattle.outcome.specs.Outcome.{kept, refusal, Outcome, refused, accepted, ended, outcome, outcomeOf, answer}
 
 -- a refusal says no more than its number, its key and its count
 abbrev Plain : Answer → Type 0

@@ -23,12 +23,12 @@ use Rattle.url.specs.Uri.{uri}
 use Rattle.url.proofs.Reading.{reading-start, left-start}
 use Rattle.config.specs.declared.Config.{Config}
 use Rattle.config.specs.Config.{defaults}
-use Rattle.reader.specs.declared.Answer.{Answer}
-use Rattle.reader.specs.Reader.{reading, refusal, acceptance, Outcome, refused, accepted, ended, outcome, outcomeOf, answer, filled, left}
-use Rattle.reader.specs.Steps.{State, firstState}
-use Rattle.reader.proofs.Packing.{Packed, packed-none, zeros-behind, zeros-all}
+use Rattle.outcome.specs.declared.Answer.{Answer}
+use Rattle.outcome.specs.Outcome.{reading, refusal, acceptance, Outcome, refused, accepted, ended, outcome, outcomeOf, answer, filled, left}
+use Rattle.outcome.specs.Steps.{State, firstState}
+use Rattle.outcome.proofs.Packing.{Packed, packed-none, zeros-behind, zeros-all}
 use Rattle.taking.proofs.Next.{from, measure, slack}
-use Rattle.reader.proofs.Going.{Going}
+use Rattle.outcome.proofs.Going.{Going}
 
 -- the four ways that a text goes
 module _ (s d : List ℕ) where

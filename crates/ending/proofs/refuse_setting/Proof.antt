@@ -1,7 +1,7 @@
 use mathlib.Core.Path.{_∙_}
 use borrow.Author.Needs.{needs}
-use Rattle.reader.proofs.refuse_setting.Statement.{statement}
-use Rattle.reader.proofs.refuse_setting.Tie as tie
+use Rattle.ending.proofs.refuse_setting.Statement.{statement}
+use Rattle.ending.proofs.refuse_setting.Tie as tie
 
 number-of-requires : tie.Need-number-of-requires
 number-of-requires c κs = search needs

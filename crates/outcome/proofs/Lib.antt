@@ -1,0 +1,4 @@
+pub mod Packing
+pub mod Going
+pub mod Answers
+pub mod Refusals

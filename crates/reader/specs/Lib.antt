@@ -1,3 +1,0 @@
-pub mod Reader
-pub mod Steps
-pub mod Ending
