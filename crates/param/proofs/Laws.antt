@@ -1,29 +1,23 @@
--- What the rows stand for after a setting: by the number of its kind, and for the kinds that change a list or that are unknown.
+-- What the rows stand for after a setting, by the number of its kind, also of one that is unknown.
 -- Assumes nothing.
 use Prim.Native.Nat.{ℕ, _+_, _^_, _<_, _≤_}
-use mathlib.Core.Path.{_≡_, refl, ap, subst}
-use mathlib.Core.Bool.{Bool, true, false}
+use mathlib.Core.Path.{_≡_, ap}
+use mathlib.Core.Bool.{true}
 use mathlib.Core.List.{List}
 use native.Mathlib.Omega.{arith}
-use lib.ListN.{length, getD, set}
+use lib.ListN.{length}
 use Rattle.byte.specs.Byte.{partOf}
 use Rattle.byte.proofs.Parts.{part-most}
 use Rattle.lists.specs.declared.Fault.{Fault}
 use Rattle.lists.specs.Fault.{isFine}
-use Rattle.lists.specs.Lists.{hostAfter, hostsAfter, addressesAfter, portsAfter}
 use Rattle.config.specs.declared.Config.{Config}
 use Rattle.apply.specs.declared.Applied.{Applied}
-use Rattle.apply.specs.Apply.{faultOf, after, applied}
+use Rattle.apply.specs.Apply.{faultOf, applied}
 use Rattle.apply.proofs.Laws.{None, beyond, unknown}
 use Rattle.rows.specs.Rows.{configOf}
-use Rattle.row_lists.specs.declared.Added.{Added}
-use Rattle.row_lists.specs.Added.{hostsIn, addressesIn, portsIn, AddsHosts, AddsAddresses, AddsPorts}
-use Rattle.field_keys.proofs.Fields.{spread, spread-all, Makes}
-use Rattle.param.specs.Sets.{Sets}
-
-pub sets : (kind : ℕ) (v : List ℕ) (start : ℕ) (c d : Config) (r : Fault) → r ≡ faultOf kind v start c → (isFine (faultOf kind v start c) ≡ true → d ≡ after kind v start c) → Sets r (applied kind v start c) d
-unfolding applied
-sets kind v start c d r e g = (e, λ f. rw f (g f))
+use Rattle.field_keys.proofs.Fields.{Makes}
+use Rattle.list_keys.specs.Sets.{Sets}
+use Rattle.list_keys.proofs.Laws.{sets}
 
 -- what was applied to the value that stands there, by the number of its kind
 pub by-kind : (kind n : ℕ) (v w : List ℕ) (start : ℕ) (c d : Config) (r : Fault) → kind ≡ n → w ≡ v → Sets r (applied n w start c) d → Sets r (applied kind v start c) d
@@ -43,45 +37,3 @@ by-field kind n v w start f g h s q p r write k e l x m z =
 -- a part of what can be lent ends at a number of 64 bits; an empty one, wherever it would start
 pub within : (start end : ℕ) (s v : List ℕ) → v ≡ partOf start end s → start < 2 ^ 64 → length s < 2 ^ 64 → start + length v ≤ 18446744073709551615
 within start end s v e a b = rw e (omega (arith, part-most start end s))
-
-module _ (v : List ℕ) (start : ℕ) (a : Added) where
-  abbrev HostsAt : List ℕ → List ℕ → List ℕ → List ℕ → List ℕ → List ℕ → Type 0
-  HostsAt h g s q p f = AddsHosts a g (hostsAfter (hostsIn h (getD f 29 0)) start v) → Sets (a .fault) (applied 8 v start (configOf f h s q p)) (configOf (set f 29 (a .count)) g s q p)
-
-  hosts-at : (h g s q p f : List ℕ) → HostsAt h g s q p (spread 32 f)
-  unfolding configOf after faultOf
-  hosts-at h g s q p f x = sets 8 v start (configOf (spread 32 f) h s q p) (configOf (set (spread 32 f) 29 (a .count)) g s q p) (a .fault) (x .0) (λ e. rw (← x .1 e))
-
-  pub hosts-set : (f h g s q p : List ℕ) → length f ≡ 32 → HostsAt h g s q p f
-  hosts-set f h g s q p l = subst (HostsAt h g s q p) (spread-all 32 f l) (hosts-at h g s q p f)
-
-  abbrev HostAt : List ℕ → List ℕ → List ℕ → List ℕ → List ℕ → List ℕ → Type 0
-  HostAt h g s q p f = AddsHosts a g (hostAfter (hostsIn h (getD f 29 0)) start v) → Sets (a .fault) (applied 20 v start (configOf f h s q p)) (configOf (set f 29 (a .count)) g s q p)
-
-  host-at : (h g s q p f : List ℕ) → HostAt h g s q p (spread 32 f)
-  unfolding configOf after faultOf
-  host-at h g s q p f x = sets 20 v start (configOf (spread 32 f) h s q p) (configOf (set (spread 32 f) 29 (a .count)) g s q p) (a .fault) (x .0) (λ e. rw (← x .1 e))
-
-  pub host-set : (f h g s q p : List ℕ) → length f ≡ 32 → HostAt h g s q p f
-  host-set f h g s q p l = subst (HostAt h g s q p) (spread-all 32 f l) (host-at h g s q p f)
-
-  abbrev AddressesAt : List ℕ → List ℕ → List ℕ → List ℕ → List ℕ → List ℕ → List ℕ → Type 0
-  AddressesAt h s t q r p f =
-      AddsAddresses a t r (addressesAfter (addressesIn s q (getD f 30 0)) v) → getD r 0 0 ≡ getD q 0 0 → Sets (a .fault) (applied 9 v start (configOf f h s q p)) (configOf (set f 30 (a .count)) h t r p)
-
-  addresses-at : (h s t q r p f : List ℕ) → AddressesAt h s t q r p (spread 32 f)
-  unfolding configOf after faultOf
-  addresses-at h s t q r p f x z = sets 9 v start (configOf (spread 32 f) h s q p) (configOf (set (spread 32 f) 30 (a .count)) h t r p) (a .fault) (x .0) (λ e. rw (← x .1 e, z))
-
-  pub addresses-set : (f h s t q r p : List ℕ) → length f ≡ 32 → AddressesAt h s t q r p f
-  addresses-set f h s t q r p l = subst (AddressesAt h s t q r p) (spread-all 32 f l) (addresses-at h s t q r p f)
-
-  abbrev PortsAt : List ℕ → List ℕ → List ℕ → List ℕ → List ℕ → List ℕ → Type 0
-  PortsAt h s q p o f = AddsPorts a o (portsAfter (portsIn p (getD f 31 0)) v) → Sets (a .fault) (applied 10 v start (configOf f h s q p)) (configOf (set f 31 (a .count)) h s q o)
-
-  ports-at : (h s q p o f : List ℕ) → PortsAt h s q p o (spread 32 f)
-  unfolding configOf after faultOf
-  ports-at h s q p o f x = sets 10 v start (configOf (spread 32 f) h s q p) (configOf (set (spread 32 f) 31 (a .count)) h s q o) (a .fault) (x .0) (λ e. rw (← x .1 e))
-
-  pub ports-set : (f h s q p o : List ℕ) → length f ≡ 32 → PortsAt h s q p o f
-  ports-set f h s q p o l = subst (PortsAt h s q p o) (spread-all 32 f l) (ports-at h s q p o f)

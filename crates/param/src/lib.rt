@@ -1,13 +1,11 @@
 // One setting applied to the rows that stand for a record, by the number of its key. The cells of each field stand in crate rows.
 // After a fault nothing is promised of the rows: the text is refused, and nobody reads them.
-ghost use Prim.Native.Nat.{ℕ, _+_, _≤_};
 ghost use mathlib.Core.Path.{_≡_};
-ghost use mathlib.Core.List.{List};
 ghost use lib.ListN.{length};
 ghost use Rattle.byte.specs.Byte.{partOf};
 ghost use Rattle.apply.specs.Apply.{applied};
 ghost use Rattle.rows.specs.Rows.{configOf};
-ghost use Rattle.param.specs.Sets.{Sets};
+ghost use Rattle.list_keys.specs.Sets.{Sets};
 use lists::Fault;
 
 // A row lent as a slice tells its length, which one behind a `&mut` does not: these say it, and do nothing.
@@ -20,51 +18,6 @@ fn whole_fours(fours: &[u32])
     requires { ⌜ length (now fours) ≡ 17 ⌝ }
     ensures { λ _. ⌜ length (now (fours .entry)) ≡ 17 ⌝ }
 {}
-
-// Key 8, host: the pieces of a value that stands from `start` on.
-fn put_hosts(fields: &mut [usize; 32], hosts: &mut [usize; 48], v: &[u8], start: usize) -> Fault
-    requires { ⌜ (length (now fields) ≡ 32) × (start + length (now v) ≤ 18446744073709551615) ⌝ }
-    ensures { λ r. ⌜ ((sixes fours ports : List ℕ) → Sets r (applied 8 (now (v .entry)) start (configOf (now (fields .entry)) (now (hosts .entry)) sixes fours ports)) (configOf (now (fields .exit)) (now (hosts .exit)) sixes fours ports)) ⌝ }
-{
-    let a = row_lists::add_hosts(hosts, fields[29], v, start);
-    fields[29] = a.count;
-    a.fault
-}
-
-// One host from a URI, whose commas are its own.
-fn put_host(fields: &mut [usize; 32], hosts: &mut [usize; 48], v: &[u8], start: usize) -> Fault
-    requires { ⌜ length (now fields) ≡ 32 ⌝ }
-    ensures { λ r. ⌜ ((sixes fours ports : List ℕ) → Sets r (applied 20 (now (v .entry)) start (configOf (now (fields .entry)) (now (hosts .entry)) sixes fours ports)) (configOf (now (fields .exit)) (now (hosts .exit)) sixes fours ports)) ⌝ }
-{
-    let a = row_lists::add_host(hosts, fields[29], v, start);
-    fields[29] = a.count;
-    a.fault
-}
-
-// Key 9, hostaddr.
-fn put_hostaddrs(
-    fields: &mut [usize; 32],
-    sixes: &mut [u64; 48],
-    fours: &mut [u32; 17],
-    v: &[u8],
-) -> Fault
-    requires { ⌜ length (now fields) ≡ 32 ⌝ }
-    ensures { λ r. ⌜ ((hosts ports : List ℕ) (start : ℕ) → Sets r (applied 9 (now (v .entry)) start (configOf (now (fields .entry)) hosts (now (sixes .entry)) (now (fours .entry)) ports)) (configOf (now (fields .exit)) hosts (now (sixes .exit)) (now (fours .exit)) ports)) ⌝ }
-{
-    let a = row_lists::add_addresses(sixes, fours, fields[30], v);
-    fields[30] = a.count;
-    a.fault
-}
-
-// Key 10, port.
-fn put_ports(fields: &mut [usize; 32], ports: &mut [u16; 16], v: &[u8]) -> Fault
-    requires { ⌜ length (now fields) ≡ 32 ⌝ }
-    ensures { λ r. ⌜ ((hosts sixes fours : List ℕ) (start : ℕ) → Sets r (applied 10 (now (v .entry)) start (configOf (now (fields .entry)) hosts sixes fours (now (ports .entry)))) (configOf (now (fields .exit)) hosts sixes fours (now (ports .exit)))) ⌝ }
-{
-    let a = row_lists::add_ports(ports, fields[31], v);
-    fields[31] = a.count;
-    a.fault
-}
 
 // Applies the setting of a kind (1 to 19 its key, 20 one host from a URI) whose value is the part of the buffer from `start` up to `end`.
 pub fn param(
@@ -91,9 +44,9 @@ pub fn param(
         5 => field_keys::put_text(fields, 12, start, v.len()),
         6 => field_keys::put_word(fields, 15, 6, v),
         7 => field_keys::put_word(fields, 16, 7, v),
-        8 => put_hosts(fields, hosts, v, start),
-        9 => put_hostaddrs(fields, sixes, fours, v),
-        10 => put_ports(fields, ports, v),
+        8 => list_keys::put_hosts(fields, hosts, v, start),
+        9 => list_keys::put_hostaddrs(fields, sixes, fours, v),
+        10 => list_keys::put_ports(fields, ports, v),
         11 => field_keys::put_time(fields, 20, v),
         12 => field_keys::put_time(fields, 22, v),
         13 => field_keys::put_keepalives(fields, v),
@@ -103,7 +56,7 @@ pub fn param(
         17 => field_keys::put_word(fields, 17, 17, v),
         18 => field_keys::put_word(fields, 18, 18, v),
         19 => field_keys::put_word(fields, 19, 19, v),
-        20 => put_host(fields, hosts, v, start),
+        20 => list_keys::put_host(fields, hosts, v, start),
         _ => Fault::UnknownKey,
     }
 }

@@ -17,7 +17,7 @@ use Rattle.config.specs.declared.Config.{Config}
 use Rattle.config.specs.Config.{defaults}
 use Rattle.apply.specs.Apply.{applied, sslModeOf, sslNegotiationOf, targetSessionAttrsOf, channelBindingOf, loadBalanceHostsOf}
 use Rattle.rows.specs.Rows.{hostsOf, addressesOf, configOf}
-use Rattle.param.specs.Sets.{Sets}
+use Rattle.list_keys.specs.Sets.{Sets}
 use Rattle.report.specs.declared.Answer.{Answer}
 use Rattle.report.specs.Answer.{reported, reportedInto}
 use Rattle.probe_record.specs.declared.Given.{Given}

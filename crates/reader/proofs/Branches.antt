@@ -16,7 +16,7 @@ use Rattle.lists.specs.Fault.{isFine, numberOf, keyOf}
 use Rattle.config.specs.declared.Config.{Config}
 use Rattle.apply.specs.declared.Applied.{Applied}
 use Rattle.apply.specs.Apply.{applied}
-use Rattle.param.specs.Sets.{Sets}
+use Rattle.list_keys.specs.Sets.{Sets}
 use Rattle.taking.specs.declared.Taken.{Taken}
 use Rattle.taking.specs.Taking.{takenOf, takenLeaves}
 use Rattle.taking.proofs.Next.{measure, slack}

@@ -1,7 +1,8 @@
 use native.Mathlib.Omega.{arith}
 use Rattle.apply.specs.Apply.{faultOf}
 use Rattle.field_keys.proofs.Fields.{user-set, password-set, dbname-set, options-set, application-name-set, ssl-mode-set, ssl-negotiation-set, connect-timeout-set, tcp-user-timeout-set, keepalives-set, idle-set, interval-set, retries-set, target-session-attrs-set, channel-binding-set, load-balance-hosts-set}
-use Rattle.param.proofs.Laws.{sets, by-kind, by-field, other, within}
+use Rattle.list_keys.proofs.Laws.{sets}
+use Rattle.param.proofs.Laws.{by-kind, by-field, other, within}
 use borrow.Author.Needs.{needs}
 use Rattle.param.proofs.param.Statement.{statement}
 use Rattle.param.proofs.param.Tie as tie

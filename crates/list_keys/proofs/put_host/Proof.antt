@@ -1,7 +1,7 @@
-use Rattle.param.proofs.Laws.{host-set}
+use Rattle.list_keys.proofs.Laws.{host-set}
 use borrow.Author.Needs.{needs}
-use Rattle.param.proofs.put_host.Statement.{statement}
-use Rattle.param.proofs.put_host.Tie as tie
+use Rattle.list_keys.proofs.put_host.Statement.{statement}
+use Rattle.list_keys.proofs.put_host.Tie as tie
 
 element-copy-out-add-host : tie.Need-element-copy-out-add-host
 element-copy-out-add-host c = search needs

@@ -1,7 +1,7 @@
-use Rattle.param.proofs.Laws.{ports-set}
+use Rattle.list_keys.proofs.Laws.{ports-set}
 use borrow.Author.Needs.{needs}
-use Rattle.param.proofs.put_ports.Statement.{statement}
-use Rattle.param.proofs.put_ports.Tie as tie
+use Rattle.list_keys.proofs.put_ports.Statement.{statement}
+use Rattle.list_keys.proofs.put_ports.Tie as tie
 
 element-copy-out-add-ports : tie.Need-element-copy-out-add-ports
 element-copy-out-add-ports c = search needs

@@ -1,7 +1,7 @@
-use Rattle.param.proofs.Laws.{addresses-set}
+use Rattle.list_keys.proofs.Laws.{addresses-set}
 use borrow.Author.Needs.{needs}
-use Rattle.param.proofs.put_hostaddrs.Statement.{statement}
-use Rattle.param.proofs.put_hostaddrs.Tie as tie
+use Rattle.list_keys.proofs.put_hostaddrs.Statement.{statement}
+use Rattle.list_keys.proofs.put_hostaddrs.Tie as tie
 
 element-copy-out-add-addresses : tie.Need-element-copy-out-add-addresses
 element-copy-out-add-addresses c = search needs

@@ -1,7 +1,7 @@
-use Rattle.param.proofs.Laws.{hosts-set}
+use Rattle.list_keys.proofs.Laws.{hosts-set}
 use borrow.Author.Needs.{needs}
-use Rattle.param.proofs.put_hosts.Statement.{statement}
-use Rattle.param.proofs.put_hosts.Tie as tie
+use Rattle.list_keys.proofs.put_hosts.Statement.{statement}
+use Rattle.list_keys.proofs.put_hosts.Tie as tie
 
 element-copy-out-add-hosts : tie.Need-element-copy-out-add-hosts
 element-copy-out-add-hosts c = search needs
