@@ -167,7 +167,7 @@ fn settle(n: usize, list: &[u8]) -> Settled
     if e.number != 0 {
         return refuse(e);
     }
-    let config = rows::config_of(&fields, &hosts, &sixes, &fours, &ports);
+    let config = record::config_of(&fields, &hosts, &sixes, &fours, &ports);
     Settled {
         number: e.number,
         key: e.key,

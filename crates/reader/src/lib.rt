@@ -143,7 +143,7 @@ pub fn read(text: &[u8], decode: &mut [u8]) -> Answer
     if e.number != 0 {
         return refuse(e);
     }
-    let config = rows::config_of(&fields, &hosts, &sixes, &fours, &ports);
+    let config = record::config_of(&fields, &hosts, &sixes, &fours, &ports);
     Answer {
         number: e.number,
         key: e.key,

@@ -1,4 +1,2 @@
 pub mod Cells
-pub mod Filled
-pub mod Made
 pub mod First

@@ -2,10 +2,10 @@ use Prim.Native.Nat.{_-_}
 use mathlib.Core.Path.{refl, ap}
 use native.Mathlib.Omega.{arith}
 use borrow.Author.Needs.{needs}
 use Rattle.rows.specs.Rows.{hostsOf}
-use Rattle.rows.proofs.Filled.{Filled, hosts-more, hosts-all}
-use Rattle.rows.proofs.hosts_of.Statement.{statement}
-use Rattle.rows.proofs.hosts_of.Tie as tie
+use Rattle.row_values.proofs.Filled.{Filled, hosts-more, hosts-all}
+use Rattle.row_values.proofs.hosts_of.Statement.{statement}
+use Rattle.row_values.proofs.hosts_of.Tie as tie
 
 abbrev Inv-loop : tie.InvT-loop
 Inv-loop hosts count list₀ i₀ list i = Filled (hostsOf hosts) list i

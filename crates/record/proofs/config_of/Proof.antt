@@ -1,7 +1,7 @@
-use Rattle.rows.proofs.Made.{config-made}
+use Rattle.record.proofs.Made.{config-made}
 use borrow.Author.Needs.{needs}
-use Rattle.rows.proofs.config_of.Statement.{statement}
-use Rattle.rows.proofs.config_of.Tie as tie
+use Rattle.record.proofs.config_of.Statement.{statement}
+use Rattle.record.proofs.config_of.Tie as tie
 
 element-copy-out-t26 : tie.Need-element-copy-out-t26
 element-copy-out-t26 c = search needs

@@ -3,10 +3,10 @@ use mathlib.Core.Path.{refl, ap}
 use native.Mathlib.Omega.{arith}
 use borrow.Author.Needs.{needs}
 use lib.ListN.{drop}
 use Rattle.rows.specs.Rows.{addressesOf}
-use Rattle.rows.proofs.Filled.{Filled, addresses-more, addresses-all}
-use Rattle.rows.proofs.addresses_of.Statement.{statement}
-use Rattle.rows.proofs.addresses_of.Tie as tie
+use Rattle.row_values.proofs.Filled.{Filled, addresses-more, addresses-all}
+use Rattle.row_values.proofs.addresses_of.Statement.{statement}
+use Rattle.row_values.proofs.addresses_of.Tie as tie
 
 abbrev Inv-loop : tie.InvT-loop
 Inv-loop sixes fours count list₀ i₀ list i = Filled (addressesOf sixes (drop 1 fours)) list i

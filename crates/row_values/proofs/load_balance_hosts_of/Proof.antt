@@ -1,6 +1,6 @@
 use borrow.Author.Tests.{ne-eqb}
-use Rattle.rows.proofs.load_balance_hosts_of.Statement.{statement}
-use Rattle.rows.proofs.load_balance_hosts_of.Tie as tie
+use Rattle.row_values.proofs.load_balance_hosts_of.Statement.{statement}
+use Rattle.row_values.proofs.load_balance_hosts_of.Tie as tie
 
 returns : tie.Need-returns
 returns c = rw (c .match .keys1)
