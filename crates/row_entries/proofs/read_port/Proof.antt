@@ -1,7 +1,7 @@
 use Rattle.lists.proofs.Pieces.{port-empty, port-full}
 use borrow.Author.Needs.{needs}
-use Rattle.row_lists.proofs.read_port.Statement.{statement}
-use Rattle.row_lists.proofs.read_port.Tie as tie
+use Rattle.row_entries.proofs.read_port.Statement.{statement}
+use Rattle.row_entries.proofs.read_port.Tie as tie
 
 returns : tie.Need-returns
 returns c = port-empty _ (c .if1 .taken)

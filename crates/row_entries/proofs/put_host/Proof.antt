@@ -1,7 +1,7 @@
-use Rattle.row_lists.proofs.Adds.{host-put}
+use Rattle.row_entries.proofs.Entries.{host-put}
 use borrow.Author.Needs.{needs}
-use Rattle.row_lists.proofs.put_host.Statement.{statement}
-use Rattle.row_lists.proofs.put_host.Tie as tie
+use Rattle.row_entries.proofs.put_host.Statement.{statement}
+use Rattle.row_entries.proofs.put_host.Tie as tie
 
 kind-of-requires : tie.Need-kind-of-requires
 kind-of-requires c κs = search needs

@@ -1,8 +1,8 @@
 use mathlib.Core.Path.{ap, sym}
-use Rattle.row_lists.proofs.Adds.{address-put, first-stays}
+use Rattle.row_entries.proofs.Entries.{address-put, first-stays}
 use borrow.Author.Needs.{needs}
-use Rattle.row_lists.proofs.put_address.Statement.{statement}
-use Rattle.row_lists.proofs.put_address.Tie as tie
+use Rattle.row_entries.proofs.put_address.Statement.{statement}
+use Rattle.row_entries.proofs.put_address.Tie as tie
 
 enum-known-kind : tie.Need-enum-known-kind
 enum-known-kind c = search needs
