@@ -6,7 +6,7 @@
 # slips         slips made on purpose in a copy of the reader, each to be noticed by the program replay: ten minutes
 # bench         instructions for one text beside the Rust's, into docs/PERFORMANCE.md
 # clean         remove what was built
-.PHONY: run test test-postgres staticlib differential slips bench clean kit
+.PHONY: run test beside hosts test-postgres staticlib differential slips bench clean kit
 
 run: kit
 	@scripts/run.sh
@@ -15,11 +15,18 @@ run: kit
 test: kit
 	rt fmt --check
 	scripts/ci.sh
+	scripts/archive.sh all
+	$(MAKE) --no-print-directory -j 2 --output-sync=target beside hosts
+	@tail -n 1 build/ci.log
+
+# what is run of what is proved: two at a time
+beside:
 	differential/run.sh small
+
+hosts:
 	scripts/host.sh
 	scripts/program.sh
 	scripts/postgres.sh gate
-	@tail -n 1 build/ci.log
 
 test-postgres: kit
 	scripts/postgres.sh test

@@ -94,10 +94,7 @@ if [ "$size" = vectors ]; then
     sed -n 's/ vectors, .*/ as they should be, 0 differ/p' "$build/vectors.log" >crates/replay/stdout
     exit 0
 fi
-archive libprobe.a probe
-archive libprobe_record.a probe_record
-archive libnyimbrak.a dock
-kept probe_setters target/bin/probe_setters rt check probe_setters
+scripts/archive.sh all
 rust --crate-name beside --extern percent_encoding "${with_original[@]}" -L native=build \
     -l static=probe -l static=probe_record -l static=nyimbrak differential/beside/main.rs
 "${run[@]}" "$build/beside" calls "$size" "$seed" "$build/calls"

@@ -31,6 +31,9 @@ install_missing() {
         as_root=(sudo -n)
     fi
     echo "$1: installing ${packages% }"
+    mkdir -p build
+    exec 7>build/install.lock
+    flock 7
     {
         [[ $packages != *:amd64* ]] || "${as_root[@]}" dpkg --add-architecture amd64
         "${as_root[@]}" "${apt[@]}" update -qq
@@ -41,6 +44,7 @@ install_missing() {
         # shellcheck disable=SC2086
         "${as_root[@]}" env DEBIAN_FRONTEND=noninteractive "${apt[@]}" install -y -qq --no-install-recommends $packages
     } </dev/null >"$2" 2>&1 || done=
+    exec 7>&-
     "${as_root[@]}" rm -f "$no_server"
     [ -n "$done" ] || cannot "apt-get could not install ${packages% }"
     [ -z "$(missing)" ] || cannot "still missing after apt-get: $(missing | tr '\n' ' ')"
