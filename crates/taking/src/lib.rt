@@ -66,7 +66,7 @@ fn next_setting(text: &[u8], uri: bool, u: Url) -> UrlStep
     ensures { λ r. ⌜ r ≡ nextAt (now (text .entry)) uri u ⌝ }
 {
     if uri {
-        return url::step(text, u);
+        return uri_step::step(text, u);
     }
     next_parameter(text, u.at)
 }
@@ -77,7 +77,7 @@ fn put_value(text: &[u8], uri: bool, f: Found, decode: &mut [u8], at: usize) -> 
     ensures { λ _. ⌜ now (decode .exit) ≡ written (now (decode .entry)) at (valueAt (now (text .entry)) uri f) ⌝ }
 {
     if uri {
-        return url::put_value(text, f, decode, at);
+        return uri_values::put_value(text, f, decode, at);
     }
     keyvalue::unescape(byte::part(text, f.from, f.to), decode, at)
 }
