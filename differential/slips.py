@@ -23,7 +23,7 @@ SECONDS = 300  # a slip that makes the program run for longer is noticed by that
 SLIPS = [
     # document 01, "Slips to rule out"
     ("at_sign_only_before_the_first_slash", [
-        ("url", """\
+        ("uri_step", """\
     if s.len() <= end {
         return parse_host(s, at);
 """, """\
@@ -205,7 +205,7 @@ fn close_up(hosts: &mut [usize; 48], first: usize, count: usize) {
     ]),
     # the URI parser
     ("credentials_up_to_the_last_at_sign", [
-        ("url", "// \"If an `@` stands anywhere", """\
+        ("uri_step", "// \"If an `@` stands anywhere", """\
 fn last_at_sign(s: &[u8], at: usize) -> usize {
     let mut found = s.len();
     let mut i = at;
@@ -219,11 +219,11 @@ fn last_at_sign(s: &[u8], at: usize) -> usize {
 }
 
 // \"If an `@` stands anywhere"""),
-        ("url", "    let end = split::find(s, at, b'@');\n    if s.len() <= end {\n", "    let end = last_at_sign(s, at);\n    if s.len() <= end {\n"),
-        ("url", "    let end = password.end;\n", "    let end = last_at_sign(s, at);\n"),
+        ("uri_step", "    let end = split::find(s, at, b'@');\n    if s.len() <= end {\n", "    let end = last_at_sign(s, at);\n    if s.len() <= end {\n"),
+        ("uri_step", "    let end = password.end;\n", "    let end = last_at_sign(s, at);\n"),
     ]),
     ("password_of_credentials_must_be_utf8", [
-        ("url", "    let judged = password.judged;\n", """\
+        ("uri_step", "    let judged = password.judged;\n", """\
     let judged = password.judged;
     if !judged.utf8 {
         return UrlStep::Ended(NOT_UTF8);
@@ -231,13 +231,13 @@ fn last_at_sign(s: &[u8], at: usize) -> usize {
 """),
     ]),
     ("empty_dbname_set", [
-        ("url", "    if end <= at {\n        return parse_params(s, at);\n    }\n", ""),
+        ("uri_step", "    if end <= at {\n        return parse_params(s, at);\n    }\n", ""),
     ]),
     ("unix_path_must_be_utf8", [
-        ("url", "utf8: first == b'/',", "utf8: false,"),
+        ("uri_values", "utf8: first == b'/',", "utf8: false,"),
     ]),
     ("last_ampersand_refused", [
-        ("url", "    if s.len() <= at {\n        return UrlStep::Ended(CLEAN);\n", """\
+        ("uri_step", "    if s.len() <= at {\n        return UrlStep::Ended(CLEAN);\n", """\
     if s.len() <= at {
         if byte::at(s, at - 1) == b'&' {
             return UrlStep::Ended(NO_EQUALS);
@@ -249,7 +249,7 @@ fn last_at_sign(s: &[u8], at: usize) -> usize {
         ("uri_keys", "let n = percent_decode::decode(key, &mut name, 0);", "let n = byte::copy(key, &mut name, 0);"),
     ]),
     ("anything_behind_a_bracket_taken", [
-        ("url", "    c[at] == b':'\n", "    true\n"),
+        ("uri_chunks", "    c[at] == b':'\n", "    true\n"),
     ]),
     ("second_prefix_forgotten", [
         ("names", "if has_long_prefix(s) {", "if has_short_prefix(s) {"),
