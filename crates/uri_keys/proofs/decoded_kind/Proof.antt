@@ -1,4 +1,4 @@
--- `url::decoded_kind` meets its contract: twenty bytes are enough to look a key up.
+-- `uri_keys::decoded_kind` meets its contract: twenty bytes are enough to look a key up.
 -- Assumes nothing.
 use mathlib.Core.Path.{_≡_, sym, ap, _∙_}
 use Rattle.names.specs.Find.{keyNumber}

@@ -1,4 +1,4 @@
--- `url::param_kind` meets its contract: a known key is decoded already, and any other is looked up decoded.
+-- `uri_keys::param_kind` meets its contract: a known key is decoded already, and any other is looked up decoded.
 -- Assumes nothing.
 use mathlib.Core.Path.{sym, _∙_}
 use Rattle.uri_keys.proofs.Keys.{raw-host, raw-other}

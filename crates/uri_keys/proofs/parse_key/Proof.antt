@@ -1,4 +1,4 @@
--- `url::parse_key` meets its contract: a known key is UTF-8, and of any other the scan tells.
+-- `uri_keys::parse_key` meets its contract: a known key is UTF-8, and of any other the scan tells.
 -- Assumes nothing.
 use mathlib.Core.Path.{sym, ap, _∙_}
 use Rattle.percent_check.specs.declared.Checked.{Checked}
