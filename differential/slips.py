@@ -267,13 +267,13 @@ fn last_at_sign(s: &[u8], at: usize) -> usize {
         ("byte", "is_between(97, 102, b)", "is_between(97, 96, b)"),
     ]),
     ("surrogates_taken", [
-        ("utf8", "        return 0x9f;\n", "        return 0xbf;\n"),
+        ("utf8_tail", "        return 0x9f;\n", "        return 0xbf;\n"),
     ]),
     ("overlong_forms_taken", [
-        ("utf8", "        return 0xa0;\n", "        return 0x80;\n"),
+        ("utf8_tail", "        return 0xa0;\n", "        return 0x80;\n"),
     ]),
     ("code_points_above_10ffff_taken", [
-        ("utf8", "if a == 0xf4 { 0x8f } else { 0xbf }", "0xbf"),
+        ("utf8_tail", "if a == 0xf4 { 0x8f } else { 0xbf }", "0xbf"),
     ]),
     # numbers and addresses
     ("plus_sign_refused", [

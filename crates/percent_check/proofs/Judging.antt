@@ -5,10 +5,10 @@ use mathlib.Core.Bool.{Bool}
 use mathlib.Core.List.{List}
 use Prim.Native.Nat.{ℕ, _+_, _<_, _≤_}
 use lib.ListN.{length, drop}
-use Rattle.utf8.specs.declared.State.{State}
+use Rattle.utf8_state.specs.declared.State.{State}
 use Rattle.utf8.specs.Utf8.{wellFormed}
-use Rattle.utf8.specs.Bytewise.{startState, nextState, wholeState, stateAfter}
-use Rattle.utf8.proofs.Bytewise.{after-none, after-more, whole-after}
+use Rattle.utf8_state.specs.Bytewise.{startState, nextState, wholeState, stateAfter}
+use Rattle.utf8_state.proofs.Bytewise.{after-none, after-more, whole-after}
 use Rattle.percent.specs.Percent.{decoded, pieceAt}
 use Rattle.percent_check.specs.Plain.{checked}
 use Rattle.percent.proofs.Laws.{step, stop}

@@ -16,7 +16,7 @@ use Rattle.byte.proofs.Parts.{part-is, part-short}
 use Rattle.split.specs.Split.{firstAt}
 use Rattle.split.proofs.Split.{first-end}
 use Rattle.utf8.specs.Utf8.{wellFormed, wellFrom}
-use Rattle.utf8.proofs.Bytewise.{cut-well}
+use Rattle.utf8_state.proofs.Bytewise.{cut-well}
 use Rattle.percent_check.specs.declared.Checked.{Checked}
 use Rattle.percent.specs.Percent.{pieceAt, decoded}
 use Rattle.percent_check.specs.Plain.{checked, endsPlain, plainUntil, checkedOn, checkedUntil}

@@ -79,16 +79,16 @@ fn check_from(s: &[u8], from: usize) -> Checked
 fn check_bytes(s: &[u8]) -> Checked
     ensures { λ r. ⌜ r ≡ checked (now (s .entry)) ⌝ }
 {
-    let mut state = utf8::start();
+    let mut state = utf8_state::start();
     let mut len: usize = 0;
     let mut i = 0;
     while i < s.len() {
         let p = percent::piece_at(s, i);
-        state = utf8::next(state, p.byte);
+        state = utf8_state::next(state, p.byte);
         len += 1;
         i = i + 1 + p.skip;
     }
-    let utf8 = utf8::is_whole(state);
+    let utf8 = utf8_state::is_whole(state);
     Checked { len, utf8 }
 }
 

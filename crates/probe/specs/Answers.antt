@@ -3,7 +3,7 @@
 use Prim.Native.Nat.{ℕ}
 use lib.IntN.{ℤ, pos}
 use Rattle.utf8.specs.declared.Char.{Char}
-use Rattle.utf8.specs.declared.State.{State}
+use Rattle.utf8_state.specs.declared.State.{State}
 use Rattle.percent_check.specs.declared.Checked.{Checked}
 use Rattle.number.specs.declared.Number.{Number}
 use Rattle.number.specs.declared.Number16.{Number16}

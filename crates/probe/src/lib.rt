@@ -9,7 +9,7 @@ ghost use Rattle.byte.specs.Same.{standsAt};
 ghost use Rattle.byte.specs.Put.{written, after};
 ghost use Rattle.space.specs.Space.{isSpace};
 ghost use Rattle.utf8.specs.Utf8.{charAt, wellFormed};
-ghost use Rattle.utf8.specs.Bytewise.{startState, nextState};
+ghost use Rattle.utf8_state.specs.Bytewise.{startState, nextState};
 ghost use Rattle.percent.specs.Percent.{decoded};
 ghost use Rattle.percent_check.specs.Plain.{checked};
 ghost use Rattle.number.specs.Number.{digitsIn, unsignedOf, signedOf, as16, as32};
@@ -25,7 +25,7 @@ use number::Number16;
 use number::Number32;
 use number::Radix;
 use number::Signed;
-use utf8::State;
+use utf8_state::State;
 
 #[repr(C)]
 pub struct Symbol {
@@ -118,14 +118,14 @@ pub extern "C" fn probe_char_at(s: &[u8], at: usize) -> Symbol
 pub extern "C" fn probe_valid(s: &[u8]) -> bool
     ensures { λ r. ⌜ r ≡ wellFormed (now (s .entry)) ⌝ }
 {
-    utf8::valid(s)
+    utf8_valid::valid(s)
 }
 
 #[no_mangle]
 pub extern "C" fn probe_start() -> Lacking
     ensures { λ r. ⌜ r ≡ lacking startState ⌝ }
 {
-    let s = utf8::start();
+    let s = utf8_state::start();
     Lacking {
         left: s.left,
         lo: s.lo,
@@ -137,7 +137,7 @@ pub extern "C" fn probe_start() -> Lacking
 pub extern "C" fn probe_next(left: u8, lo: u8, hi: u8, b: u8) -> Lacking
     ensures { λ r. ⌜ r ≡ lacking (nextState (stateOf left lo hi) b) ⌝ }
 {
-    let s = utf8::next(State { left, lo, hi }, b);
+    let s = utf8_state::next(State { left, lo, hi }, b);
     Lacking {
         left: s.left,
         lo: s.lo,

@@ -81,7 +81,7 @@ fn read_rows(
     if decode.len() < text.len() {
         return ending::end(2, 0, 0);
     }
-    if !utf8::valid(text) {
+    if !utf8_valid::valid(text) {
         return ending::refuse_text(decode, text.len(), 3, 0, 0);
     }
     read_settings(text, decode, fields, hosts, sixes, fours, ports)

@@ -13,7 +13,8 @@ use Rattle.byte.proofs.Laws.{between-in, in-between, above-between, and-left, a
 use Rattle.utf8.specs.declared.Char.{Char}
 use Rattle.utf8.specs.Utf8.{char, none, tail, second, least, greatest, longer, charOf, charAt, wellFrom, wellFormed}
 use Rattle.utf8.specs.Utf8 as def
-use Rattle.utf8.proofs.Laws.{least-tail, greatest-tail, inside, take-one, take-two, take-three}
+use Rattle.utf8_tail.proofs.Laws.{least-tail, greatest-tail}
+use Rattle.utf8.proofs.Laws.{inside, take-one, take-two, take-three}
 use Rattle.utf8.specs.Grammar.{Range, UTF8-tail, UTF8-1, UTF8-2, UTF8-3, UTF8-4, UTF8-char, UTF8-octets}
 
 -- a test of a range, from the grammar's range

@@ -5,33 +5,14 @@ use mathlib.Core.Bool.{Bool, true, false, _&&_}
 use mathlib.Core.List.{List, [], _∷_}
 use Prim.Native.Nat.{ℕ, zero, suc, _+_, _-_, _*_, _%_, _<_, _≤_, zero-le}
 use native.Mathlib.Omega.{arith}
-use lib.Dec.{ltb, eqb}
+use lib.Dec.{ltb}
 use lib.ListN.{length, take, drop, getD, length-drop, drop-of-length-le}
 use lib.Seq.{drop-cons, drop-drop, getD-drop}
 use borrow.Author.Tests.{lt-ltb, le-ltb, ltb-true}
 use Rattle.byte.specs.Byte.{pick, between}
 use Rattle.byte.proofs.Laws.{past, and-left, and-right}
 use Rattle.utf8.specs.declared.Char.{Char}
-use Rattle.utf8.specs.Utf8.{char, none, tail, second, least, greatest, two, three, four, longer, charOf, charAt, wellFrom, wellFormed}
-
--- a second byte is a tail
-pub least-tail : (a : ℕ) → 0x80 ≤ least a
-unfolding least
-least-tail a = by (eqb a 0xe0) (eqb a 0xf0)
-  where
-    by : (p q : Bool) → 0x80 ≤ pick p 0xa0 (pick q 0x90 0x80)
-    by true q = omega arith
-    by false true = omega arith
-    by false false = omega arith
-
-pub greatest-tail : (a : ℕ) → greatest a ≤ 0xbf
-unfolding greatest
-greatest-tail a = by (eqb a 0xed) (eqb a 0xf4)
-  where
-    by : (p q : Bool) → pick p 0x9f (pick q 0x8f 0xbf) ≤ 0xbf
-    by true q = omega arith
-    by false true = omega arith
-    by false false = omega arith
+use Rattle.utf8.specs.Utf8.{char, none, tail, second, two, three, four, longer, charOf, charAt, wellFrom, wellFormed}
 
 -- behind k bytes
 pub skip : (k : ℕ) (s : List ℕ) → wellFrom k s ≡ wellFormed (drop k s)

@@ -1,5 +1,3 @@
 pub mod Laws
-pub mod Bytewise
 pub mod Grammar
 pub mod Scalar
-pub mod Examples

@@ -3,26 +3,12 @@
 use Prim.Native.Nat.{ℕ, zero, suc, _+_, _-_, _*_, _%_}
 use mathlib.Core.Bool.{Bool, true, _&&_}
 use mathlib.Core.List.{List, [], _∷_}
-use lib.Dec.{ltb, eqb}
+use lib.Dec.{ltb}
 use lib.ListN.{getD}
 use Rattle.byte.specs.Byte.{pick, between}
 use Rattle.utf8.specs.declared.Char.{Char}
-
--- UTF8-tail = %x80-BF
-abbrev pub tail : ℕ → Bool
-tail b = between 0x80 0xbf b
-
--- the second byte is a UTF8-tail too, but for %xE0 %xA0-BF and %xF0 %x90-BF, which rule the overlong forms out,
-unfoldable pub least : ℕ → ℕ
-least a = pick (eqb a 0xe0) 0xa0 (pick (eqb a 0xf0) 0x90 0x80)
-
--- and %xED %x80-9F and %xF4 %x80-8F, which rule out the surrogates and what lies above 10FFFF
-unfoldable pub greatest : ℕ → ℕ
-greatest a = pick (eqb a 0xed) 0x9f (pick (eqb a 0xf4) 0x8f 0xbf)
-
--- the second byte b may follow the first byte a
-abbrev pub second : ℕ → ℕ → Bool
-second a b = between (least a) (greatest a) b
+pub use Rattle.utf8_tail.specs.Tail.{tail, second}
+unfoldable pub use Rattle.utf8_tail.specs.Tail.{least, greatest}
 
 abbrev pub char : ℕ → ℕ → Char
 char code len = record { code = code; len = len }

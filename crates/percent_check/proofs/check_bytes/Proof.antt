@@ -4,7 +4,7 @@ use Prim.Native.Nat.{_+_, _-_, _≤_}
 use native.Mathlib.Omega.{arith}
 use borrow.Author.Needs.{needs}
 use lib.ListN.{length, drop}
-use Rattle.utf8.specs.Bytewise.{startState, stateAfter}
+use Rattle.utf8_state.specs.Bytewise.{startState, stateAfter}
 use Rattle.percent.specs.Percent.{decoded}
 use Rattle.percent.proofs.Laws.{small, counted, count-fits, count-done}
 use Rattle.percent_check.proofs.Judging.{judged, judge-done, told}
