@@ -311,7 +311,7 @@ fn last_at_sign(s: &[u8], at: usize) -> usize {
         ("address", "read_side(&s[..gap], false)", "read_side(&s[..gap], true)"),
     ]),
     ("group_of_five_digits", [
-        ("address", "if 4 < s.len() {", "if 5 < s.len() {"),
+        ("group_text", "if 4 < s.len() {", "if 5 < s.len() {"),
     ]),
     # settings
     ("sixteenth_host_refused", [

@@ -8,11 +8,13 @@ use native.Mathlib.Omega.{arith}
 use lib.ListN.{length, getD, replicate}
 use Rattle.number.proofs.Digits.{value-below}
 use Rattle.ipv4.proofs.Form.{v4-below}
+use Rattle.group_text.specs.Form.{GroupText, GroupTexts, SideText}
+use Rattle.group_text.proofs.Form.{four-digits}
 use Rattle.address.specs.declared.Address.{Address}
 use Rattle.address.specs.declared.AddressRead.{AddressRead}
 use Rattle.address.specs.Address.{quad, addressOf}
-use Rattle.address.specs.Form.{GroupText, GroupTexts, SideText, V6Text, AddressText, Within}
-use Rattle.address.proofs.Form.{four-digits, address-sound}
+use Rattle.address.specs.Form.{V6Text, AddressText, Within}
+use Rattle.address.proofs.Form.{address-sound}
 
 -- groups of 16 bits, and 0 behind them
 abbrev Small : List ℕ → Type 0

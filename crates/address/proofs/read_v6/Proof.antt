@@ -7,10 +7,12 @@ use Prim.Native.Nat.{_+_, _-_, _≤_}
 use native.Mathlib.Omega.{arith}
 use lib.ListN.{length, take, drop, length-drop}
 use lib.Seq.{take-all, length-take-le}
-use Rattle.address.specs.declared.Groups.{Groups}
+use Rattle.groups.specs.declared.Groups.{Groups}
+use Rattle.groups.specs.Eight.{packed}
+use Rattle.group_text.proofs.Gap.{gap-within}
 use Rattle.address.specs.Address.{sideOf}
-use Rattle.address.specs.Steps.{packed, wholeAt, aroundAt}
-use Rattle.address.proofs.Gap.{gap-within, v6-whole, v6-around}
+use Rattle.address.specs.Steps.{wholeAt, aroundAt}
+use Rattle.address.proofs.Gap.{v6-whole, v6-around}
 use Rattle.address.proofs.Eight.{whole-held, around-held}
 use borrow.Author.Needs.{needs}
 use Rattle.address.proofs.read_v6.Statement.{statement}

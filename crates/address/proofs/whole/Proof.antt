@@ -2,7 +2,8 @@
 -- Assumes nothing.
 use native.Mathlib.Omega.{arith}
 use borrow.Author.Tests.{eq-eqb, ne-eqb, not-true, not-false}
-use Rattle.address.specs.Steps.{packed, wholeAt}
+use Rattle.groups.specs.Eight.{packed}
+use Rattle.address.specs.Steps.{wholeAt}
 use borrow.Author.Needs.{needs}
 use Rattle.address.proofs.whole.Statement.{statement}
 use Rattle.address.proofs.whole.Tie as tie

@@ -1,13 +1,13 @@
--- `address::read_group`: the test for the length, then what the digits read as.
+-- `group_text::read_group`: the test for the length, then what the digits read as.
 -- Assumes nothing.
 use mathlib.Core.Path.{sym, _∙_}
 use native.Mathlib.Omega.{arith}
 use borrow.Author.Tests.{le-leb, lt-leb}
 use Rattle.number.proofs.Laws.{digits-told}
-use Rattle.address.specs.Address.{groupOf}
+use Rattle.group_text.specs.Text.{groupOf}
 use borrow.Author.Needs.{needs}
-use Rattle.address.proofs.read_group.Statement.{statement}
-use Rattle.address.proofs.read_group.Tie as tie
+use Rattle.group_text.proofs.read_group.Statement.{statement}
+use Rattle.group_text.proofs.read_group.Tie as tie
 
 returns : tie.Need-returns
 unfolding groupOf

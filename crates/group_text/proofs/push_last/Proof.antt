@@ -1,15 +1,15 @@
--- `address::push_last`: the last piece is a group, or the two groups of an IPv4 text.
+-- `group_text::push_last`: the last piece is a group, or the two groups of an IPv4 text.
 -- Assumes nothing.
 use Prim.Native.Nat.{_%_, _^_}
 use mathlib.Core.Path.{sym, ap, _∙_}
 use borrow.Author.Tests.{not-true, not-false}
-use Rattle.address.specs.declared.Group.{Group}
-use Rattle.address.specs.declared.Groups.{Groups}
-use Rattle.address.specs.Steps.{pushed}
-use Rattle.address.proofs.Eight.{last-plain, last-four, last-group}
+use Rattle.groups.specs.declared.Group.{Group}
+use Rattle.groups.specs.declared.Groups.{Groups}
+use Rattle.groups.specs.Eight.{pushed}
+use Rattle.group_text.proofs.Reading.{last-plain, last-four, last-group}
 use borrow.Author.Needs.{needs}
-use Rattle.address.proofs.push_last.Statement.{statement}
-use Rattle.address.proofs.push_last.Tie as tie
+use Rattle.group_text.proofs.push_last.Statement.{statement}
+use Rattle.group_text.proofs.push_last.Tie as tie
 
 read-group-requires : tie.Need-read-group-requires
 read-group-requires c κs = search needs

@@ -1,11 +1,11 @@
--- `address::push`: one answer for each test.
+-- `groups::push`: one answer for each test.
 -- Assumes nothing.
 use mathlib.Core.Path.{_∙_}
 use borrow.Author.Tests.{lt-ltb, le-ltb, not-true, not-false}
-use Rattle.address.specs.Steps.{packed, pushed}
+use Rattle.groups.specs.Eight.{packed, pushed}
 use borrow.Author.Needs.{needs}
-use Rattle.address.proofs.push.Statement.{statement}
-use Rattle.address.proofs.push.Tie as tie
+use Rattle.groups.proofs.push.Statement.{statement}
+use Rattle.groups.proofs.push.Tie as tie
 
 enum-known-x : tie.Need-enum-known-x
 enum-known-x c = search needs

@@ -1,14 +1,14 @@
--- `address::find_gap`: the whole answer is what it is from here on.
+-- `group_text::find_gap`: the whole answer is what it is from here on.
 -- Assumes nothing.
 use Prim.Native.Nat.{_+_, _-_}
 use mathlib.Core.Path.{_≡_, sym, _∙_}
 use native.Mathlib.Omega.{arith}
 use borrow.Author.Needs.{needs}
 use lib.ListN.{length, drop}
-use Rattle.address.specs.Address.{gapAt}
-use Rattle.address.proofs.Gap.{gap-here, gap-on, gap-end}
-use Rattle.address.proofs.find_gap.Statement.{statement}
-use Rattle.address.proofs.find_gap.Tie as tie
+use Rattle.group_text.specs.Text.{gapAt}
+use Rattle.group_text.proofs.Gap.{gap-here, gap-on, gap-end}
+use Rattle.group_text.proofs.find_gap.Statement.{statement}
+use Rattle.group_text.proofs.find_gap.Tie as tie
 
 abbrev Inv-loop : tie.InvT-loop
 Inv-loop s i₀ t3 i = gapAt s ≡ i + gapAt (drop i s)

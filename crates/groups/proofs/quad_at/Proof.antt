@@ -1,9 +1,9 @@
--- `address::quad_at`: four groups, which fit 64 bits.
+-- `groups::quad_at`: four groups, which fit 64 bits.
 -- Assumes nothing.
-use Rattle.address.specs.Steps.{quadAt}
+use Rattle.groups.specs.Eight.{quadAt}
 use borrow.Author.Needs.{needs}
-use Rattle.address.proofs.quad_at.Statement.{statement}
-use Rattle.address.proofs.quad_at.Tie as tie
+use Rattle.groups.proofs.quad_at.Statement.{statement}
+use Rattle.groups.proofs.quad_at.Tie as tie
 
 group-at-requires : tie.Need-group-at-requires
 group-at-requires c κs = search needs

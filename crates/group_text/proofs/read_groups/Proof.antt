@@ -1,4 +1,4 @@
--- `address::read_groups`: the groups are those that are held and those from here on.
+-- `group_text::read_groups`: the groups are those that are held and those from here on.
 -- Assumes nothing.
 use Prim.Native.Nat.{_≤_, _+_, _-_}
 use mathlib.Core.Path.{_≡_, _∙_}
@@ -7,9 +7,9 @@ use borrow.Author.Needs.{needs}
 use lib.ListN.{length, drop}
 use Rattle.split.specs.Split.{firstAt}
 use Rattle.split.proofs.Split.{first-within}
-use Rattle.address.proofs.Eight.{Reading, reading-start, reading-more, reading-last}
-use Rattle.address.proofs.read_groups.Statement.{statement}
-use Rattle.address.proofs.read_groups.Tie as tie
+use Rattle.group_text.proofs.Reading.{Reading, reading-start, reading-more, reading-last}
+use Rattle.group_text.proofs.read_groups.Statement.{statement}
+use Rattle.group_text.proofs.read_groups.Tie as tie
 
 abbrev Inv-loop : tie.InvT-loop
 Inv-loop s tail g₀ i₀ e₀ g i e = (i ≤ length s) × (e ≡ i + firstAt 58 (drop i s)) × Reading tail s g i

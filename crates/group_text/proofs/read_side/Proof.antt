@@ -1,11 +1,11 @@
--- `address::read_side`: nothing, or groups.
+-- `group_text::read_side`: nothing, or groups.
 -- Assumes nothing.
 use mathlib.Core.Path.{sym, ap, _∙_}
-use Rattle.address.specs.Steps.{packed}
-use Rattle.address.proofs.Gap.{side-empty, side-some}
+use Rattle.groups.specs.Eight.{packed}
+use Rattle.group_text.proofs.Gap.{side-empty, side-some}
 use borrow.Author.Needs.{needs}
-use Rattle.address.proofs.read_side.Statement.{statement}
-use Rattle.address.proofs.read_side.Tie as tie
+use Rattle.group_text.proofs.read_side.Statement.{statement}
+use Rattle.group_text.proofs.read_side.Tie as tie
 
 no-groups-requires : tie.Need-no-groups-requires
 no-groups-requires c κs = search needs

@@ -1,10 +1,10 @@
--- `address::group_at`: one answer for each test.
+-- `groups::group_at`: one answer for each test.
 -- Assumes nothing.
 use borrow.Author.Tests.{lt-ltb, le-ltb}
-use Rattle.address.specs.Steps.{groupAt}
+use Rattle.groups.specs.Eight.{groupAt}
 use borrow.Author.Needs.{needs}
-use Rattle.address.proofs.group_at.Statement.{statement}
-use Rattle.address.proofs.group_at.Tie as tie
+use Rattle.groups.proofs.group_at.Statement.{statement}
+use Rattle.groups.proofs.group_at.Tie as tie
 
 mul-result : tie.Need-mul-result
 mul-result c = search needs
