@@ -6,7 +6,7 @@ use mathlib.Core.Bool.{Bool}
 use mathlib.Core.List.{List, [], _∷_, _++_}
 use native.Mathlib.Omega.{arith}
 use lib.ListN.{length, getD, replicate}
-use Rattle.number.proofs.Digits.{value-below}
+use Rattle.digits.proofs.Digits.{value-below}
 use Rattle.ipv4.proofs.Form.{v4-below}
 use Rattle.group_text.specs.Form.{GroupText, GroupTexts, SideText}
 use Rattle.group_text.proofs.Form.{four-digits}

@@ -15,7 +15,7 @@ use Rattle.byte.specs.Byte.{pick}
 use Rattle.byte.specs.Digit.{digitOf}
 use Rattle.byte.proofs.Laws.{in-between, above-between}
 use Rattle.number.specs.Digits.{allDigits, valueIn}
-use Rattle.number.proofs.Digits.{value-nil, value-last, all-digits-nil, all-digits-cons, all-digits-append}
+use Rattle.digits.proofs.Digits.{value-nil, value-last, all-digits-nil, all-digits-cons, all-digits-append}
 use Rattle.decimal.specs.Decimal.{digitByte, fixedDigits, hexDigits}
 use Rattle.decimal.proofs.Each.{Each, each-append, HexByte}
 

@@ -15,7 +15,7 @@ use Rattle.byte.proofs.Laws.{In}
 use Rattle.number.specs.declared.Number.{Number}
 use Rattle.number.specs.Digits.{allDigits, valueIn}
 use Rattle.number.specs.Number.{digitsIn, unsignedOf}
-use Rattle.number.proofs.Digits.{value-nil, value-last}
+use Rattle.digits.proofs.Digits.{value-nil, value-last}
 use Rattle.number.proofs.Laws.{digits-is, unsigned-nothing, unsigned-bare}
 use Rattle.decimal.specs.Decimal.{digitByte, fixedDigits, decimalBy, decimal}
 use Rattle.decimal.proofs.Each.{Each, each-append}

@@ -14,7 +14,7 @@ use Rattle.byte.specs.Digit.{digitOf}
 use Rattle.number.specs.declared.Number.{Number}
 use Rattle.number.specs.Number.{digitsIn}
 use Rattle.number.proofs.Laws.{digits-is, digits-told, Told}
-use Rattle.number.proofs.Digits.{value-below}
+use Rattle.digits.proofs.Digits.{value-below}
 use Rattle.split.specs.Split.{split, join}
 use Rattle.split.proofs.Split.{Free, free-head, AllFree, free-one, free-more, join-one, join-more, join-split, split-join}
 use Rattle.ipv4.specs.declared.Four.{Four}

@@ -14,7 +14,7 @@ use Rattle.byte.proofs.Laws.{and-left, and-right}
 use Rattle.number.specs.declared.Number.{Number}
 use Rattle.number.specs.Digits.{allDigits}
 use Rattle.number.specs.Number.{digitsIn}
-use Rattle.number.proofs.Digits.{all-digits-cons}
+use Rattle.digits.proofs.Digits.{all-digits-cons}
 use Rattle.number.proofs.Laws.{digits-form, digits-told}
 use Rattle.split.specs.Split.{firstAt, split}
 use Rattle.split.proofs.Split.{Free, free-nil, free-cons, split-more, split-last, split-free, split-first, behind, first-most}

@@ -13,7 +13,7 @@ use Rattle.byte.proofs.Laws.{and-left, and-right, and-false}
 use Rattle.number.specs.declared.Number.{Number}
 use Rattle.number.specs.Digits.{allDigits, valueIn}
 use Rattle.number.specs.Number.{digitsIn, unsignedOf, signedOf, positive, negative}
-use Rattle.number.proofs.Digits.{value-zeros, all-digits-zeros}
+use Rattle.digits.proofs.Digits.{value-zeros, all-digits-zeros}
 
 -- What digits read as, told by their form and their number.
 module _ (base max : ℕ) (s : List ℕ) where

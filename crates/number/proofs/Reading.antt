@@ -11,7 +11,7 @@ use Rattle.byte.specs.Digit.{digitOf}
 use Rattle.number.specs.declared.Number.{Number}
 use Rattle.number.specs.Digits.{allDigits, valueFrom, valueIn}
 use Rattle.number.specs.Number.{digitsIn}
-use Rattle.number.proofs.Digits.{grows}
+use Rattle.digits.proofs.Digits.{grows}
 
 pub record Reading (base max : ℕ) (t : List ℕ) (v : ℕ) (rest : List ℕ) : Type 0 where
   pub some : 0 < length t

@@ -1,7 +1,6 @@
 // Numbers in digits, within a range: the answer tells a fault of form from one of range.
 ghost use mathlib.Core.Path.{_≡_};
-ghost use Prim.Native.Nat.{_+_, _*_, _-_, _^_, _<_, _≤_};
-ghost use lib.Dec.{leb};
+ghost use Prim.Native.Nat.{_-_, _^_, _≤_};
 ghost use lib.IntN.{pos, negℤ};
 ghost use lib.ListN.{drop};
 ghost use Rattle.byte.specs.Byte.{pick};
@@ -39,41 +38,11 @@ pub enum Signed {
     Range,
 }
 
-// Whether every byte from a place on is a digit.
-fn all_digits(s: &[u8], from: usize, base: u8) -> bool
-    ensures { λ r. ⌜ r ≡ allDigits base (drop from (now (s .entry))) ⌝ }
-{
-    let mut i = from;
-    while i < s.len() {
-        if base <= byte::digit_of(s[i]) {
-            return false;
-        }
-        i += 1;
-    }
-    true
-}
-
-// Whether `v` with the digit `d` behind it stays within `max`, told without a product that could wrap. The first test divides the same two numbers
-// at each digit, so that a compiler divides once, and only the digits at the end of the range go further.
-fn stays(v: u64, base: u64, d: u64, max: u64) -> bool
-    requires { ⌜ 0 < base ⌝ }
-    requires { ⌜ d < base ⌝ }
-    ensures { λ r. ⌜ r ≡ leb (v * base + d) max ⌝ }
-{
-    if v < max / base {
-        return true;
-    }
-    if max < d {
-        return false;
-    }
-    v <= (max - d) / base
-}
-
 // What a piece is whose digits up to the place `from` are beyond the range: a fault of form behind it still goes first.
 fn beyond(s: &[u8], from: usize, base: u8) -> Number
     ensures { λ r. ⌜ r ≡ pick (allDigits base (drop from (now (s .entry)))) Number.Range Number.Form ⌝ }
 {
-    if all_digits(s, from, base) {
+    if digits::all_digits(s, from, base) {
         Number::Range
     } else {
         Number::Form
@@ -94,7 +63,7 @@ fn digits_from(s: &[u8], from: usize, base: u8, max: u64) -> Number
         if base <= d {
             return Number::Form;
         }
-        if !stays(v, base as u64, d as u64, max) {
+        if !digits::stays(v, base as u64, d as u64, max) {
             return beyond(s, i + 1, base);
         }
         v = v * base as u64 + d as u64;

@@ -16,7 +16,7 @@ use Rattle.names.specs.Names.{wordName, wordsOf}
 use Rattle.names.specs.Find.{wordNumber}
 use Rattle.name_table.proofs.Examples.{word-own}
 use Rattle.number.specs.Digits.{allDigits, valueIn}
-use Rattle.number.proofs.Digits.{value-nil, value-last, all-digits-cons}
+use Rattle.digits.proofs.Digits.{value-nil, value-last, all-digits-cons}
 use Rattle.split.specs.Split.{firstAt, split}
 use Rattle.split.proofs.Split.{Free, split-first, split-free, split-behind, first-most, behind}
 use Rattle.percent.specs.Percent.{isHex, decoded}

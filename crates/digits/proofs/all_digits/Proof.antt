@@ -5,10 +5,10 @@ use Prim.Native.Nat.{_-_, _≤_, _<_}
 use native.Mathlib.Omega.{arith}
 use borrow.Author.Needs.{needs}
 use lib.ListN.{length, drop}
-use Rattle.number.specs.Digits.{allDigits}
-use Rattle.number.proofs.Digits.{digit-here, other-here, digits-end}
-use Rattle.number.proofs.all_digits.Statement.{statement}
-use Rattle.number.proofs.all_digits.Tie as tie
+use Rattle.digits.specs.Digits.{allDigits}
+use Rattle.digits.proofs.Digits.{digit-here, other-here, digits-end}
+use Rattle.digits.proofs.all_digits.Statement.{statement}
+use Rattle.digits.proofs.all_digits.Tie as tie
 
 abbrev Inv-loop : tie.InvT-loop
 Inv-loop s from base i₀ i = allDigits base (drop from s) ≡ allDigits base (drop i s)

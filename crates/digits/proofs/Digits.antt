@@ -14,7 +14,7 @@ use borrow.Author.Tests.{lt-ltb, le-ltb, ltb-true}
 use Rattle.byte.specs.Byte.{pick, between}
 use Rattle.byte.specs.Digit.{digitOf}
 use Rattle.byte.proofs.Laws.{and-left, and-right, between-in}
-use Rattle.number.specs.Digits.{allDigits, valueFrom, valueIn}
+use Rattle.digits.specs.Digits.{allDigits, valueFrom, valueIn}
 
 -- the digits in base ten are the ASCII digits `0` to `9`
 pub decimal-digit : (b : ℕ) → ltb (digitOf b) 10 ≡ between 48 57 b

@@ -6,8 +6,8 @@ use native.Mathlib.Omega.{arith}
 use lib.Dec.{leb}
 use borrow.Author.Tests.{le-leb, lt-leb, leb-true, leb-false}
 use borrow.Author.Needs.{needs}
-use Rattle.number.proofs.stays.Statement.{statement}
-use Rattle.number.proofs.stays.Tie as tie
+use Rattle.digits.proofs.stays.Statement.{statement}
+use Rattle.digits.proofs.stays.Tie as tie
 
 div-if1 : tie.Need-div-if1
 div-if1 c = search needs
