@@ -1,7 +1,5 @@
 // Replays vectors from standard input, made from the answers of the Rust that is ported (differential/beside/vectors.rs says what a
 // vector is), and says how many are as they should be and how many differ.
-ghost use mathlib.Core.Path.{_≡_};
-ghost use Prim.Native.Nat.{_+_, _*_, _≤_};
 use libc::STDOUT_FILENO;
 use outcome::Answer;
 
@@ -18,33 +16,17 @@ struct Head {
     key: usize,
 }
 
-// Two bytes, the high one first.
-fn pair(high: u8, low: u8) -> usize
-    ensures { λ r. ⌜ r ≡ high * 256 + low ⌝ }
-    ensures { λ r. ⌜ r ≤ 65535 ⌝ }
-{
-    (high as usize) * 256 + (low as usize)
-}
-
 fn head_of(b: [u8; 10]) -> Head {
-    let given = pair(b[2], b[3]);
-    let report = pair(b[4], b[5]);
+    let given = vector_parts::pair(b[2], b[3]);
+    let report = vector_parts::pair(b[4], b[5]);
     Head {
-        text: pair(b[0], b[1]),
+        text: vector_parts::pair(b[0], b[1]),
         given: given,
         end: given + report,
-        count: pair(b[6], b[7]),
+        count: vector_parts::pair(b[6], b[7]),
         number: b[8] as usize,
         key: b[9] as usize,
     }
-}
-
-// Fills the first n bytes of a buffer from standard input.
-fn fill(buf: &mut [u8], n: usize) -> bool {
-    if buf.len() < n {
-        return false;
-    }
-    io::read_full(0, &mut buf[..n]) == n
 }
 
 // Whether the decode buffer begins with the bytes that are given, and is as it was behind them.
@@ -107,10 +89,10 @@ fn judge(
         return 0;
     }
     let h = head_of(b);
-    if !fill(text, h.text) {
+    if !vector_parts::fill(text, h.text) {
         return 2;
     }
-    if !fill(want, h.end) {
+    if !vector_parts::fill(want, h.end) {
         return 2;
     }
     if agrees(byte::part(text, 0, h.text), decode, dst, want, h) {

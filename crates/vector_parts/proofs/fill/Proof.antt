@@ -2,8 +2,8 @@ use mathlib.Core.Path.{sym}
 use lib.Seq.{length-take-le}
 use native.Mathlib.Omega.{arith}
 use borrow.Author.Needs.{needs}
-use Rattle.replay.proofs.fill.Statement.{statement}
-use Rattle.replay.proofs.fill.Tie as tie
+use Rattle.vector_parts.proofs.fill.Statement.{statement}
+use Rattle.vector_parts.proofs.fill.Tie as tie
 
 returns : tie.Need-returns
 returns c = search needs
