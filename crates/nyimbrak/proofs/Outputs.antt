@@ -26,8 +26,9 @@ use Rattle.demands.proofs.Numbers as Numbers
 use Rattle.limits.specs.Limits.{number, reports}
 use Rattle.limits.proofs.Room.{report-fits}
 use Rattle.limits.proofs.Entries.{number-low, enters}
-use Rattle.nyimbrak.specs.Output.{refusalLine, tellsOf, textNumber, outputOf, Writes}
-use Rattle.nyimbrak.proofs.Line.{line-most}
+use Rattle.refusal_line.specs.Refusal.{refusalLine}
+use Rattle.refusal_line.proofs.Line.{line-most}
+use Rattle.nyimbrak.specs.Output.{tellsOf, textNumber, outputOf, Writes}
 
 -- with a decode buffer for every text within the limit
 module _ (s d : List ℕ) (long : 4096 ≤ length d) where

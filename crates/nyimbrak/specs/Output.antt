@@ -2,21 +2,16 @@
 -- Assumes nothing.
 use Prim.Native.Nat.{ℕ, _≤_, _<_}
 use mathlib.Core.Path.{_≡_}
-use mathlib.Core.List.{List, [], _∷_, _++_}
+use mathlib.Core.List.{List}
 use mathlib.Core.Logic.{_↔_}
 use lib.Dec.{eqb, ltb}
 use lib.ListN.{length}
 use Rattle.byte.specs.Byte.{pick}
-use Rattle.byte.specs.Ascii.{bytes}
 use Rattle.utf8.specs.Utf8.{wellFormed}
-use Rattle.decimal.specs.Decimal.{decimal}
 use Rattle.view.specs.Given.{Told, plain, told}
 use Rattle.outcome.specs.Outcome.{reading}
 use Rattle.report.specs.Report.{report}
-
--- "`refused` with a blank, the number and 0x0A"
-unfoldable pub refusalLine : ℕ → List ℕ
-refusalLine number = bytes "refused " ++ decimal number ++ (10 ∷ [])
+use Rattle.refusal_line.specs.Refusal.{refusalLine}
 
 -- what document 01's reading of a text comes to
 abbrev pub tellsOf : List ℕ → Told

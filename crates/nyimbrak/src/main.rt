@@ -3,22 +3,12 @@ ghost use mathlib.Core.Path.{_≡_};
 ghost use lib.ListN.{length};
 ghost use Rattle.io.specs.Counts.{Counts};
 ghost use Rattle.byte.specs.Put.{put};
-ghost use Rattle.nyimbrak.specs.Output.{refusalLine, outputOf};
+ghost use Rattle.nyimbrak.specs.Output.{outputOf};
 use libc::STDIN_FILENO;
 use libc::STDOUT_FILENO;
 
 // What a refusal's number is added to where the report's length might stand.
 const REFUSED: u32 = 1000000;
-
-// The line of a refusal, in front of a buffer that has room for it whatever the number is.
-fn refusal_into(number: u64, out: &mut [u8; 13795]) -> usize
-    ensures { λ r. ⌜ r ≡ length (refusalLine number) ⌝ }
-    ensures { λ _. ⌜ now (out .exit) ≡ put (now (out .entry)) 0 (refusalLine number) ⌝ }
-{
-    let at = byte::copy(b"refused ", out, 0);
-    let end = decimal::put_decimal(number, out, at);
-    byte::put(out, end, 10)
-}
 
 // What is written for a text, in front of a buffer as long as the longest report; its length is answered.
 fn answer_into(text: &[u8], out: &mut [u8; 13795]) -> usize
@@ -30,7 +20,7 @@ fn answer_into(text: &[u8], out: &mut [u8; 13795]) -> usize
     if r < REFUSED {
         return r as usize;
     }
-    refusal_into((r - REFUSED) as u64, out)
+    refusal_line::refusal_into((r - REFUSED) as u64, out)
 }
 
 // Writes bytes that are the whole output of a text.

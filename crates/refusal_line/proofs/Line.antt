@@ -10,7 +10,7 @@ use Rattle.byte.specs.Put.{put, written, after}
 use Rattle.byte.proofs.Writing.{written-room, after-room, written-append, after-append}
 use Rattle.decimal.specs.Decimal.{decimal}
 use Rattle.decimal.proofs.Laws.{decimal-most}
-use Rattle.nyimbrak.specs.Output.{refusalLine}
+use Rattle.refusal_line.specs.Refusal.{refusalLine}
 
 abbrev word : List ℕ
 word = bytes "refused "

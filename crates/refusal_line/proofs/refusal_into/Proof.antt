@@ -1,10 +1,10 @@
--- `nyimbrak::refusal_into` meets its contract: its three parts, one behind the other, are the line.
+-- `refusal_line::refusal_into` meets its contract: its three parts, one behind the other, are the line.
 -- Assumes nothing.
 use borrow.Author.Needs.{needs}
 use native.Mathlib.Omega.{arith}
-use Rattle.nyimbrak.proofs.Line.{line-written}
-use Rattle.nyimbrak.proofs.refusal_into.Statement.{statement}
-use Rattle.nyimbrak.proofs.refusal_into.Tie as tie
+use Rattle.refusal_line.proofs.Line.{line-written}
+use Rattle.refusal_line.proofs.refusal_into.Statement.{statement}
+use Rattle.refusal_line.proofs.refusal_into.Tie as tie
 
 slice-aggregate-copy : tie.Need-slice-aggregate-copy
 slice-aggregate-copy c = search needs
