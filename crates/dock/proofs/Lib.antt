@@ -1,4 +1,3 @@
 pub mod Ends
 pub mod Bounds
-pub mod Entry
 pub mod Places

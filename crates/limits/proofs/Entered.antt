@@ -12,7 +12,7 @@ use Rattle.byte.specs.Byte.{pick}
 use Rattle.byte.specs.Put.{written}
 use Rattle.byte.proofs.Writing.{written-room, part-put}
 use Rattle.outcome.specs.Outcome.{reading}
-use Rattle.dock.specs.Entry.{entry, entryLeft}
+use Rattle.entry.specs.Entry.{entry, entryLeft}
 use Rattle.telling.proofs.Told as Told
 use Rattle.demands.specs.Blind.{Readable, Alike}
 use Rattle.demands.proofs.Blind as Demands

@@ -23,7 +23,7 @@ use Rattle.outcome.specs.Outcome.{outcomeOf, answer, left}
 use Rattle.outcome.proofs.Answers.{answered}
 use Rattle.report.specs.declared.Answer.{Answer as Reported}
 use Rattle.report.specs.Answer.{reported, reportedInto}
-use Rattle.dock.specs.Entry.{told, used, reportLeft, kept, entry, entryLeft}
+use Rattle.entry.specs.Entry.{told, used, reportLeft, kept, entry, entryLeft}
 use Rattle.dock.proofs.Bounds.{small}
 use Rattle.demands.specs.Giving.{Read}
 use Rattle.demands.specs.Blind.{Readable}

@@ -15,7 +15,8 @@ use Rattle.config.specs.Config.{unset}
 use Rattle.config.specs.Sound.{placeIn, textIn}
 use Rattle.view.proofs.Places.{place-ends}
 use Rattle.view.proofs.Seen.{In}
-use Rattle.dock.specs.Places.{textOf, nowhere, somewhere, placeOf, place}
+use Rattle.places.specs.Places.{textOf, nowhere, somewhere, placeOf}
+use Rattle.dock.specs.Places.{place}
 use Rattle.limits.specs.Limits.{number, given, Stands}
 use Rattle.limits.proofs.Entries.{inside, number-low, reads}
 

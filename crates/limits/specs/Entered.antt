@@ -9,7 +9,7 @@ use lib.ListN.{length, take}
 use Rattle.byte.specs.Byte.{pick}
 use Rattle.view.specs.Hidden.{hidden}
 use Rattle.outcome.specs.Outcome.{reading}
-use Rattle.dock.specs.Entry.{entry, entryLeft}
+use Rattle.entry.specs.Entry.{entry, entryLeft}
 use Rattle.demands.specs.Blind.{Readable, Alike}
 use Rattle.limits.specs.Limits.{number, shows, reports}
 

@@ -18,7 +18,7 @@ use Rattle.view.specs.Given.{Told}
 use Rattle.outcome.specs.declared.Answer.{Answer}
 use Rattle.outcome.proofs.Answers.{too-long, not-utf8}
 use Rattle.report.specs.Report.{report}
-use Rattle.dock.specs.Entry.{entry, entryLeft}
+use Rattle.entry.specs.Entry.{entry, entryLeft}
 use Rattle.demands.specs.Blind.{Readable, tells}
 use Rattle.demands.proofs.Shows.{read-tells}
 use Rattle.demands.proofs.Telling.{accepted-readable}

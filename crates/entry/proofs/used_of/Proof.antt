@@ -1,9 +1,9 @@
--- `dock::used_of` meets its contract.
+-- `entry::used_of` meets its contract.
 -- Assumes nothing.
 use borrow.Author.Tests.{le-leb, lt-leb}
-use Rattle.dock.specs.Entry.{used}
-use Rattle.dock.proofs.used_of.Statement.{statement}
-use Rattle.dock.proofs.used_of.Tie as tie
+use Rattle.entry.specs.Entry.{used}
+use Rattle.entry.proofs.used_of.Statement.{statement}
+use Rattle.entry.proofs.used_of.Tie as tie
 
 returns : tie.Need-returns
 unfolding used

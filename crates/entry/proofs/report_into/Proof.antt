@@ -1,11 +1,11 @@
--- `dock::report_into` meets its contract: the report is written into the part that is used, and its length stays within that part.
+-- `entry::report_into` meets its contract: the report is written into the part that is used, and its length stays within that part.
 -- Assumes nothing.
 use borrow.Author.Needs.{needs}
 use mathlib.Core.Path.{sym}
 use native.Mathlib.Omega.{arith}
-use Rattle.dock.proofs.Entry.{part-fits, part-long, told-by, left-by, len-short}
-use Rattle.dock.proofs.report_into.Statement.{statement}
-use Rattle.dock.proofs.report_into.Tie as tie
+use Rattle.entry.proofs.Entry.{part-fits, part-long, told-by, left-by, len-short}
+use Rattle.entry.proofs.report_into.Statement.{statement}
+use Rattle.entry.proofs.report_into.Tie as tie
 
 used-of-requires : tie.Need-used-of-requires
 used-of-requires c κs = search needs

@@ -1,10 +1,10 @@
--- `dock::place_of` meets its contract.
+-- `places::place_of` meets its contract.
 -- Assumes nothing.
 use borrow.Author.Needs.{needs}
 use borrow.Author.Tests.{not-true, not-false}
-use Rattle.dock.proofs.Places.{unset-place, out-start, out-length, in-place}
-use Rattle.dock.proofs.place_of.Statement.{statement}
-use Rattle.dock.proofs.place_of.Tie as tie
+use Rattle.places.proofs.Places.{unset-place, out-start, out-length, in-place}
+use Rattle.places.proofs.place_of.Statement.{statement}
+use Rattle.places.proofs.place_of.Tie as tie
 
 returns : tie.Need-returns
 returns c = unset-place _ _ (not-true _ (c .if1 .taken))

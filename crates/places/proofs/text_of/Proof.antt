@@ -1,10 +1,10 @@
--- `dock::text_of` meets its contract.
+-- `places::text_of` meets its contract.
 -- Assumes nothing.
 use mathlib.Core.Path.{_≡_, refl}
-use Rattle.dock.proofs.Places.{by-key, no-key}
-use Rattle.dock.specs.Places.{textOf}
-use Rattle.dock.proofs.text_of.Statement.{statement}
-use Rattle.dock.proofs.text_of.Tie as tie
+use Rattle.places.proofs.Places.{by-key, no-key}
+use Rattle.places.specs.Places.{textOf}
+use Rattle.places.proofs.text_of.Statement.{statement}
+use Rattle.places.proofs.text_of.Tie as tie
 
 returns : tie.Need-returns
 unfolding textOf

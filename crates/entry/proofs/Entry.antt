@@ -19,7 +19,7 @@ use Rattle.report.specs.declared.Answer.{Answer as Reported}
 use Rattle.report.specs.declared.Answer.the-variants.{Length, Short, Unsound}
 use Rattle.report.specs.Report.{report}
 use Rattle.report.specs.Answer.{reported, reportedInto}
-use Rattle.dock.specs.Entry.{refused, told, used, reportLeft, kept, entry, entryLeft}
+use Rattle.entry.specs.Entry.{refused, told, used, reportLeft, kept, entry, entryLeft}
 
 module _ (s d : List ℕ) (a : Answer) (e : a ≡ answer s (length d)) where
   -- a refused text: its number, and no report
