@@ -379,7 +379,7 @@ fn last_at_sign(s: &[u8], at: usize) -> usize {
         ("escape", "    b != b'%'\n", "    true\n"),
     ]),
     ("unix_host_told_as_tcp", [
-        ("lines", "draw::put_bytes(b\"unix:\", dst, pen)", "draw::put_bytes(b\"tcp:\", dst, pen)"),
+        ("line", "draw::put_bytes(b\"unix:\", dst, pen)", "draw::put_bytes(b\"tcp:\", dst, pen)"),
     ]),
     ("zero_retries_not_shown", [
         ("fields", "    lines::number_line(key, s.retries as u64, dst, pen)\n", """\

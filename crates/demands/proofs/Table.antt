@@ -29,7 +29,7 @@ use Rattle.taking.specs.Taking as Taking
 use Rattle.outcome.specs.Outcome as Reader
 use Rattle.draw.specs.Parts as Parts
 use Rattle.escape.specs.Escape as Escape
-use Rattle.lines.specs.Line as Line
+use Rattle.line.specs.Line as Line
 use Rattle.report.specs.Report as Report
 use Rattle.report.specs.Report.{report}
 use Rattle.demands.specs.Table.{Row, run, table, worked, workedLines, printed, brokenBehind, buffer}

@@ -7,9 +7,9 @@ use mathlib.Core.List.{List, [], _∷_, map}
 use mathlib.Core.Option.{Option, some, none}
 use lib.ListN.{take}
 use Rattle.byte.specs.Byte.{pick}
-use Rattle.lines.specs.Line.{hostValue, numberValue, line, lines}
+use Rattle.line.specs.Line.{hostValue, numberValue, line, lines}
 use Rattle.draw.specs.Pen.{Sheet, drawn}
-use Rattle.lines.proofs.Lines.{draw-none, draw-one}
+use Rattle.line.proofs.Lines.{draw-none, draw-one}
 use Rattle.lists.specs.declared.Place.{Place}
 use Rattle.lists.specs.declared.HostKind.{HostKind}
 use Rattle.lists.specs.declared.Host.{Host}

@@ -5,7 +5,7 @@ use mathlib.Core.Bool.{Bool, true, false}
 use mathlib.Core.List.{List, [], _∷_}
 use mathlib.Core.Option.{Option, some, none}
 use Rattle.byte.specs.Byte.{pick}
-use Rattle.lines.specs.Line.{hostValue, numberValue}
+use Rattle.line.specs.Line.{hostValue, numberValue}
 use Rattle.config.specs.declared.SslMode.{SslMode}
 use Rattle.config.specs.declared.SslNegotiation.{SslNegotiation}
 use Rattle.config.specs.declared.TargetSessionAttrs.{TargetSessionAttrs}

@@ -4,7 +4,7 @@ ghost use mathlib.Core.List.{[], _∷_, map};
 ghost use Rattle.byte.specs.Byte.{pick};
 ghost use Rattle.escape.specs.Escape.{textValue};
 ghost use Rattle.draw.specs.Pen.{sheet, drawn};
-ghost use Rattle.lines.specs.Line.{secretValue, addressValue, numberValue, line, lines};
+ghost use Rattle.line.specs.Line.{secretValue, addressValue, numberValue, line, lines};
 ghost use Rattle.config.specs.Values.{placeShown, textShown, hostShown, hostsShown, addressesShown, portsShown, secondsShown, retriesShown};
 ghost use Rattle.fields.specs.Field.{modeNumber, negotiationNumber, targetNumber, bindingNumber, balanceNumber, optional, namedHost, switchValue};
 use config::ChannelBinding;

@@ -13,7 +13,7 @@ use Rattle.decimal.specs.Decimal.{digitByte, fixedDigits, decimalBy, decimal}
 use Rattle.address.specs.declared.Kind.{Kind}
 use Rattle.draw.specs.Parts.{joined}
 use Rattle.escape.specs.Escape.{escape, textValue}
-use Rattle.lines.specs.Line.{secretValue, wordValue, hostValue, numberValue, fourValue, quadValue, kindValue, line, lines, linesFrom}
+use Rattle.line.specs.Line.{secretValue, wordValue, hostValue, numberValue, fourValue, quadValue, kindValue, line, lines, linesFrom}
 use Rattle.config.specs.declared.SslMode.{SslMode}
 use Rattle.config.specs.declared.SslNegotiation.{SslNegotiation}
 use Rattle.config.specs.declared.TargetSessionAttrs.{TargetSessionAttrs}

@@ -19,9 +19,9 @@ use Rattle.address.specs.declared.Address.{Address}
 use Rattle.draw.specs.Parts.{joined}
 use Rattle.escape.specs.Escape.{textValue}
 use Rattle.draw.proofs.Escape.{text-size}
-use Rattle.lines.specs.Line.{secretValue, wordValue, hostValue, numberValue, addressValue, lines, linesFrom}
-use Rattle.lines.proofs.Lines.{lines-size-none, lines-size-cons, from-size-none, from-size-cons}
-use Rattle.lines.proofs.Values.{secret-joined, word-joined, number-joined, host-joined, digits-most, kind-size}
+use Rattle.line.specs.Line.{secretValue, wordValue, hostValue, numberValue, addressValue, lines, linesFrom}
+use Rattle.line.proofs.Lines.{lines-size-none, lines-size-cons, from-size-none, from-size-cons}
+use Rattle.line.proofs.Values.{secret-joined, word-joined, number-joined, host-joined, digits-most, kind-size}
 use Rattle.lists.specs.declared.Place.{Place}
 use Rattle.lists.specs.declared.HostKind.{HostKind}
 use Rattle.lists.specs.declared.Host.{Host}

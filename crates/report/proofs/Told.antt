@@ -13,7 +13,7 @@ use Rattle.byte.specs.Put.{put, written}
 use Rattle.byte.proofs.Writing.{written-room, written-short}
 use Rattle.draw.specs.declared.Pen.{Pen}
 use Rattle.draw.specs.Parts.{joined}
-use Rattle.lines.specs.Line.{linesFrom}
+use Rattle.line.specs.Line.{linesFrom}
 use Rattle.draw.specs.Pen.{Sheet, sheet, drawn}
 use Rattle.draw.proofs.Whole.{pen, stopped, counted-all, uncounted-all, inked-all}
 use Rattle.config.specs.declared.Config.{Config}

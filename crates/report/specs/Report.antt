@@ -3,7 +3,7 @@
 use Prim.Native.Nat.{ℕ}
 use mathlib.Core.List.{List}
 use Rattle.draw.specs.Parts.{joined}
-use Rattle.lines.specs.Line.{linesFrom}
+use Rattle.line.specs.Line.{linesFrom}
 use Rattle.config.specs.Values.{Values}
 unfoldable pub use Rattle.report_lines.specs.Values.{values}
 

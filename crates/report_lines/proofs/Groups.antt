@@ -7,9 +7,9 @@ use native.Mathlib.Omega.{arith}
 use lib.ListN.{length, take, drop}
 use Rattle.byte.specs.Byte.{pick}
 use Rattle.escape.specs.Escape.{textValue}
-use Rattle.lines.specs.Line.{secretValue, wordValue, numberValue, addressValue, line, lines, linesFrom}
+use Rattle.line.specs.Line.{secretValue, wordValue, numberValue, addressValue, line, lines, linesFrom}
 use Rattle.draw.specs.Pen.{Sheet, drawn}
-use Rattle.lines.proofs.Lines.{draw-one, draw-more, draw-last, draw-split}
+use Rattle.line.proofs.Lines.{draw-one, draw-more, draw-last, draw-split}
 use Rattle.config.specs.declared.Config.{Config}
 use Rattle.config.specs.Values.{textShown, hostsShown, addressesShown, portsShown, secondsShown, retriesShown, shown}
 use Rattle.fields.specs.Field.{modeNumber, negotiationNumber, targetNumber, bindingNumber, balanceNumber, optional, namedHost, switchValue}

@@ -2,7 +2,7 @@
 ghost use mathlib.Core.Path.{_≡_};
 ghost use lib.ListN.{take, drop};
 ghost use Rattle.draw.specs.Pen.{sheet, drawn};
-ghost use Rattle.lines.specs.Line.{linesFrom};
+ghost use Rattle.line.specs.Line.{linesFrom};
 ghost use Rattle.config.specs.Values.{shown};
 ghost use Rattle.report_lines.specs.Values.{values};
 use config::Config;

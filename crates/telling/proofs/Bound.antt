@@ -11,9 +11,9 @@ use Rattle.byte.specs.Ascii.{bytes}
 use Rattle.names.specs.Names.{keyName}
 use Rattle.escape.specs.Escape.{textValue}
 use Rattle.draw.proofs.Escape.{text-size}
-use Rattle.lines.specs.Line.{numberValue, lines}
-use Rattle.lines.proofs.Lines.{lines-size-none, lines-size-cons}
-use Rattle.lines.proofs.Values.{number-joined, digits-most}
+use Rattle.line.specs.Line.{numberValue, lines}
+use Rattle.line.proofs.Lines.{lines-size-none, lines-size-cons}
+use Rattle.line.proofs.Values.{number-joined, digits-most}
 use Rattle.fields.specs.Field.{modeNumber, negotiationNumber, targetNumber, bindingNumber, balanceNumber, optional, namedHost}
 use Rattle.config.specs.Values.{HostValue, tcp, unix, Values}
 use Rattle.report.specs.Report.{values, report}

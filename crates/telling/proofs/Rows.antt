@@ -17,8 +17,8 @@ use Rattle.name_table.proofs.Examples.{key-own, no-empty}
 use Rattle.split.specs.Split.{firstAt, split}
 use Rattle.split.proofs.Split.{Free, free-nil, free-cons, split-first, split-free, split-behind, first-most, behind}
 use Rattle.draw.specs.Parts.{joined}
-use Rattle.lines.specs.Line.{line, lines, linesFrom}
-use Rattle.lines.proofs.Lines.{line-joined, lines-joined-none, lines-joined-cons, from-joined-none, from-joined-cons}
+use Rattle.line.specs.Line.{line, lines, linesFrom}
+use Rattle.line.proofs.Lines.{line-joined, lines-joined-none, lines-joined-cons, from-joined-none, from-joined-cons}
 use Rattle.telling.specs.ReadBack.{keyIn, valueOf, valuesOf}
 use Rattle.telling.proofs.Free.{free-append, key-equals, key-end}
 

@@ -17,7 +17,7 @@ use Rattle.split.specs.Split.{split}
 use Rattle.address.specs.declared.Address.{Address}
 use Rattle.draw.specs.Parts.{joined}
 use Rattle.escape.specs.Escape.{textValue}
-use Rattle.lines.specs.Line.{secretValue, wordValue, numberValue, addressValue, linesFrom}
+use Rattle.line.specs.Line.{secretValue, wordValue, numberValue, addressValue, linesFrom}
 use Rattle.fields.specs.Field.{modeNumber, negotiationNumber, targetNumber, bindingNumber, balanceNumber, optional, namedHost, switchValue}
 use Rattle.config.specs.declared.SslMode.{SslMode}
 use Rattle.config.specs.declared.SslNegotiation.{SslNegotiation}

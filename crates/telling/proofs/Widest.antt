@@ -14,8 +14,8 @@ use Rattle.address.specs.declared.Kind.{Kind}
 use Rattle.draw.specs.Parts.{joined}
 use Rattle.escape.specs.Escape.{escape, textValue}
 use Rattle.draw.proofs.Escape.{text-none, text-cons}
-use Rattle.lines.specs.Line.{secretValue, wordValue, hostValue, numberValue, fourValue, quadValue, kindValue, line, lines, linesFrom}
-use Rattle.lines.proofs.Lines.{lines-size-none, lines-size-cons, from-size-cons}
+use Rattle.line.specs.Line.{secretValue, wordValue, hostValue, numberValue, fourValue, quadValue, kindValue, line, lines, linesFrom}
+use Rattle.line.proofs.Lines.{lines-size-none, lines-size-cons, from-size-cons}
 use Rattle.config.specs.declared.SslMode.{SslMode}
 use Rattle.config.specs.declared.SslNegotiation.{SslNegotiation}
 use Rattle.config.specs.declared.TargetSessionAttrs.{TargetSessionAttrs}

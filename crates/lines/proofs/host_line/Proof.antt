@@ -1,6 +1,6 @@
-use Rattle.lines.specs.Line.{hostValue}
+use Rattle.line.specs.Line.{hostValue}
 use Rattle.draw.proofs.Drawing.{draw-then}
-use Rattle.lines.proofs.Line.{line-drawn}
+use Rattle.line.proofs.Line.{line-drawn}
 use borrow.Author.Needs.{needs}
 use Rattle.lines.proofs.host_line.Statement.{statement}
 use Rattle.lines.proofs.host_line.Tie as tie

@@ -1,5 +1,5 @@
-use Rattle.lines.specs.Line.{numberValue}
-use Rattle.lines.proofs.Line.{line-drawn}
+use Rattle.line.specs.Line.{numberValue}
+use Rattle.line.proofs.Line.{line-drawn}
 use borrow.Author.Needs.{needs}
 use Rattle.lines.proofs.number_line.Statement.{statement}
 use Rattle.lines.proofs.number_line.Tie as tie

@@ -1,5 +1,5 @@
-use Rattle.lines.specs.Line.{secretValue}
-use Rattle.lines.proofs.Line.{line-drawn}
+use Rattle.line.specs.Line.{secretValue}
+use Rattle.line.proofs.Line.{line-drawn}
 use borrow.Author.Needs.{needs}
 use Rattle.lines.proofs.secret_line.Statement.{statement}
 use Rattle.lines.proofs.secret_line.Tie as tie

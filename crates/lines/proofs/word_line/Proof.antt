@@ -1,5 +1,5 @@
-use Rattle.lines.specs.Line.{wordValue}
-use Rattle.lines.proofs.Line.{line-drawn}
+use Rattle.line.specs.Line.{wordValue}
+use Rattle.line.proofs.Line.{line-drawn}
 use borrow.Author.Needs.{needs}
 use Rattle.lines.proofs.word_line.Statement.{statement}
 use Rattle.lines.proofs.word_line.Tie as tie

@@ -1,6 +1,6 @@
 use borrow.Author.Needs.{needs}
-use Rattle.lines.proofs.put_kind.Statement.{statement}
-use Rattle.lines.proofs.put_kind.Tie as tie
+use Rattle.line.proofs.put_kind.Statement.{statement}
+use Rattle.line.proofs.put_kind.Tie as tie
 
 slice-aggregate-put-bytes : tie.Need-slice-aggregate-put-bytes
 slice-aggregate-put-bytes c = search needs

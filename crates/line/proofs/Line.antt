@@ -7,7 +7,7 @@ use Rattle.byte.specs.Ascii.{bytes}
 use Rattle.names.specs.Names.{keyName}
 use Rattle.draw.specs.Pen.{Sheet, drawn}
 use Rattle.draw.proofs.Drawing.{draw-then}
-use Rattle.lines.specs.Line.{line}
+use Rattle.line.specs.Line.{line}
 
 -- a line: its head, its value, its end
 pub line-drawn : (s t u v : Sheet) (key : ℕ) (value : List (List ℕ)) → t ≡ drawn s (keyName key ∷ bytes "=" ∷ []) → u ≡ drawn t value → v ≡ drawn u ((10 ∷ []) ∷ [])

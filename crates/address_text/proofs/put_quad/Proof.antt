@@ -1,8 +1,8 @@
 use Rattle.draw.proofs.Drawing.{draw-then}
-use Rattle.lines.specs.Line.{quadValue}
+use Rattle.line.specs.Line.{quadValue}
 use borrow.Author.Needs.{needs}
-use Rattle.lines.proofs.put_quad.Statement.{statement}
-use Rattle.lines.proofs.put_quad.Tie as tie
+use Rattle.address_text.proofs.put_quad.Statement.{statement}
+use Rattle.address_text.proofs.put_quad.Tie as tie
 
 cast-put-grouped : tie.Need-cast-put-grouped
 cast-put-grouped c = search needs

@@ -9,7 +9,7 @@ use native.Mathlib.Numerals.{add-one}
 use lib.ListN.{length, getD, take, drop, drop-of-length-le, take-append-drop}
 use lib.Seq.{drop-cons, take-nil, length-take-le}
 use Rattle.draw.specs.Parts.{joined}
-use Rattle.lines.specs.Line.{line, lines, linesFrom}
+use Rattle.line.specs.Line.{line, lines, linesFrom}
 use Rattle.byte.specs.Ascii.{bytes}
 use Rattle.names.specs.Names.{keyName}
 use Rattle.draw.specs.Pen.{Sheet, drawn}

@@ -1,7 +1,7 @@
 use Rattle.draw.proofs.Drawing.{draw-then}
 use borrow.Author.Needs.{needs}
-use Rattle.lines.proofs.put_grouped.Statement.{statement}
-use Rattle.lines.proofs.put_grouped.Tie as tie
+use Rattle.address_text.proofs.put_grouped.Statement.{statement}
+use Rattle.address_text.proofs.put_grouped.Tie as tie
 
 put-group-requires : tie.Need-put-group-requires
 put-group-requires c κs = search needs

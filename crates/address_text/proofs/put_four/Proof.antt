@@ -1,8 +1,8 @@
 use Rattle.draw.proofs.Drawing.{draw-then}
-use Rattle.lines.specs.Line.{fourValue}
+use Rattle.line.specs.Line.{fourValue}
 use borrow.Author.Needs.{needs}
-use Rattle.lines.proofs.put_four.Statement.{statement}
-use Rattle.lines.proofs.put_four.Tie as tie
+use Rattle.address_text.proofs.put_four.Statement.{statement}
+use Rattle.address_text.proofs.put_four.Tie as tie
 
 put-dotted-requires : tie.Need-put-dotted-requires
 put-dotted-requires c κs = search needs

@@ -1,7 +1,7 @@
 use Rattle.draw.proofs.Drawing.{draw-then}
 use borrow.Author.Needs.{needs}
-use Rattle.lines.proofs.put_dotted.Statement.{statement}
-use Rattle.lines.proofs.put_dotted.Tie as tie
+use Rattle.address_text.proofs.put_dotted.Statement.{statement}
+use Rattle.address_text.proofs.put_dotted.Tie as tie
 
 put-number-requires : tie.Need-put-number-requires
 put-number-requires c κs = search needs

@@ -1,8 +1,8 @@
 use Rattle.draw.proofs.Drawing.{draw-then}
-use Rattle.lines.specs.Line.{kindValue}
+use Rattle.line.specs.Line.{kindValue}
 use borrow.Author.Needs.{needs}
-use Rattle.lines.proofs.put_six.Statement.{statement}
-use Rattle.lines.proofs.put_six.Tie as tie
+use Rattle.address_text.proofs.put_six.Statement.{statement}
+use Rattle.address_text.proofs.put_six.Tie as tie
 
 put-quad-requires : tie.Need-put-quad-requires
 put-quad-requires c κs = search needs

@@ -1,7 +1,7 @@
-use Rattle.lines.specs.Line.{kindValue}
+use Rattle.line.specs.Line.{kindValue}
 use borrow.Author.Needs.{needs}
-use Rattle.lines.proofs.put_address.Statement.{statement}
-use Rattle.lines.proofs.put_address.Tie as tie
+use Rattle.address_text.proofs.put_address.Statement.{statement}
+use Rattle.address_text.proofs.put_address.Tie as tie
 
 enum-known-kind : tie.Need-enum-known-kind
 enum-known-kind c = search needs

@@ -20,7 +20,7 @@ use Rattle.draw.specs.Parts.{joined}
 use Rattle.escape.specs.Escape.{textValue}
 use Rattle.draw.proofs.Parts.{joined-none, joined-cons, joined-one, joined-append}
 use Rattle.draw.proofs.Escape.{text-size}
-use Rattle.lines.specs.Line.{secretValue, wordValue, hostValue, numberValue, fourValue, quadValue, kindValue}
+use Rattle.line.specs.Line.{secretValue, wordValue, hostValue, numberValue, fourValue, quadValue, kindValue}
 
 pub secret-joined : joined secretValue ≡ bytes "_"
 unfolding secretValue

@@ -1,7 +1,7 @@
 use Rattle.draw.proofs.Drawing.{draw-then}
 use borrow.Author.Needs.{needs}
-use Rattle.lines.proofs.put_head.Statement.{statement}
-use Rattle.lines.proofs.put_head.Tie as tie
+use Rattle.line.proofs.put_head.Statement.{statement}
+use Rattle.line.proofs.put_head.Tie as tie
 
 put-key-requires : tie.Need-put-key-requires
 put-key-requires c κs = search needs
