@@ -296,10 +296,10 @@ fn last_at_sign(s: &[u8], at: usize) -> usize {
 """),
     ]),
     ("last_port_refused", [
-        ("number", "read_unsigned(s, 0xffff) {", "read_unsigned(s, 0xfffe) {"),
+        ("integer", "read_unsigned(s, 0xffff) {", "read_unsigned(s, 0xfffe) {"),
     ]),
     ("lowest_number_refused", [
-        ("number", "match digits_from(s, 1, 10, 0x8000_0000_0000_0000) {", "match digits_from(s, 1, 10, 0x7fff_ffff_ffff_ffff) {"),
+        ("integer", "match number::digits_from(s, 1, 10, 0x8000_0000_0000_0000) {", "match number::digits_from(s, 1, 10, 0x7fff_ffff_ffff_ffff) {"),
     ]),
     ("leading_zero_in_an_address", [
         ("ipv4", "    1 < s.len()\n", "    false\n"),

@@ -14,7 +14,8 @@ use Rattle.names.specs.Names.{wordsOf}
 use Rattle.names.specs.Find.{among, numberIn, keyNumber, wordNumber}
 use Rattle.split.specs.Split.{split}
 use Rattle.number.specs.Digits.{allDigits, valueIn, valueFrom}
-use Rattle.number.specs.Number.{digitsIn, unsignedOf, signedOf}
+use Rattle.number.specs.Number.{digitsIn, unsignedOf}
+use Rattle.integer.specs.Integer.{signedOf}
 use Rattle.ipv4.specs.V4 as ipv4
 use Rattle.address.specs.Address as address
 use Rattle.lists.specs.Fault.{isFine, numberOf, keyOf}

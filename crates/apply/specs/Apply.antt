@@ -9,8 +9,9 @@ use lib.ListN.{length, getD}
 use Rattle.byte.specs.Byte.{pick}
 use Rattle.names.specs.Find.{wordNumber}
 use Rattle.number.specs.declared.Number.{Number}
-use Rattle.number.specs.declared.Signed.{Signed}
-use Rattle.number.specs.Number.{unsignedOf, signedOf}
+use Rattle.integer.specs.declared.Signed.{Signed}
+use Rattle.number.specs.Number.{unsignedOf}
+use Rattle.integer.specs.Integer.{signedOf}
 use Rattle.lists.specs.declared.Fault.{Fault}
 use Rattle.lists.specs.Fault.{isFine}
 use Rattle.lists.specs.Lists.{hostAfter, hostsAfter, addressesAfter, portsAfter}

@@ -11,7 +11,8 @@ use lib.IntN.{ℤ, pos, negℤ}
 use lib.ListN.{length, getD, drop}
 use Rattle.byte.specs.Byte.{pick}
 use Rattle.number.specs.declared.Number.{Number}
-use Rattle.number.specs.Number.{digitsIn, unsignedOf, negative, positive, signedOf}
+use Rattle.number.specs.Number.{digitsIn, unsignedOf}
+use Rattle.integer.specs.Integer.{negative, positive, signedOf}
 use Rattle.number.proofs.Laws.{unsigned-low}
 use Rattle.split.specs.Split.{onto, split}
 use Rattle.address.specs.declared.Kind.{Kind}

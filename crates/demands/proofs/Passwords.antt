@@ -15,6 +15,7 @@ use Rattle.names.specs.Find as Find
 use Rattle.setting.specs.Setting as Setting
 use Rattle.number.specs.Digits as Digits
 use Rattle.number.specs.Number as Number
+use Rattle.integer.specs.Integer as Integer
 use Rattle.split.specs.Split as Split
 use Rattle.lists.specs.Append as Append
 use Rattle.lists.specs.Lists as Lists
@@ -44,5 +45,5 @@ abbrev veiled : String → Reading
 veiled t = record { settings = map Hidden.veil (reading (bytes t) .settings); end = reading (bytes t) .end }
 
 pub alike : map (λ (p : Pair). veiled (p .0)) table ≡ map (λ (p : Pair). veiled (p .1)) table
-unfolding Hidden.veil Byte.between Byte.partOf Digit.digitOf Put.put Same.same Same.standsAt Space.spaces Space.within Space.isSpace Utf8.least Utf8.greatest Utf8.two Utf8.three Utf8.four Utf8.longer Utf8.charOf Utf8.charAt Utf8.wellFrom Percent.pieceOf Percent.pieceAt Percent.decodedFrom Percent.decoded Find.among Find.numberIn Find.keyNumber Find.wordNumber Find.startLen Find.prefixLen Setting.kindOf Setting.valueOf Digits.allDigits Digits.valueFrom Digits.valueIn Number.digitsIn Number.unsignedOf Number.signedOf Split.firstAt Split.split Append.appendFrom Append.piecesFrom Append.listed Lists.portPiece Lists.hostOf Lists.hostPiece Lists.hostPushed Lists.portsAfter Lists.hostsAfter Lists.hostAfter Config.defaults Apply.secondsIn Apply.faultOf Apply.after Apply.applied KeyValue.unescapedFrom KeyValue.quotedAt KeyValue.simpleAt KeyValue.valueAt KeyValue.signAt KeyValue.keyAt KeyValue.parameterAt KeyValue.reads KeyValue.keyValueFrom KeyValue.keyValue Scan.runFrom Scan.startsSpace Scan.spaceLen Scan.endsKey Scan.keyLen Scan.pieceLen Scan.startsQuote Uri.firstOf Uri.text Uri.hostFits Uri.host Uri.value Uri.parameter Uri.parametersFrom Uri.parameters Uri.params Uri.dbname Uri.database Uri.path Uri.port Uri.closes Uri.bracketed Uri.chunk Uri.chunks Uri.endsHosts Uri.hostChunks Uri.hosts Uri.password Uri.credentials Uri.uri Reader.reading Taking.keeps Reader.kept Reader.outcome Reader.outcomeOf Reader.answer Reader.filled Reader.left
+unfolding Hidden.veil Byte.between Byte.partOf Digit.digitOf Put.put Same.same Same.standsAt Space.spaces Space.within Space.isSpace Utf8.least Utf8.greatest Utf8.two Utf8.three Utf8.four Utf8.longer Utf8.charOf Utf8.charAt Utf8.wellFrom Percent.pieceOf Percent.pieceAt Percent.decodedFrom Percent.decoded Find.among Find.numberIn Find.keyNumber Find.wordNumber Find.startLen Find.prefixLen Setting.kindOf Setting.valueOf Digits.allDigits Digits.valueFrom Digits.valueIn Number.digitsIn Number.unsignedOf Integer.signedOf Split.firstAt Split.split Append.appendFrom Append.piecesFrom Append.listed Lists.portPiece Lists.hostOf Lists.hostPiece Lists.hostPushed Lists.portsAfter Lists.hostsAfter Lists.hostAfter Config.defaults Apply.secondsIn Apply.faultOf Apply.after Apply.applied KeyValue.unescapedFrom KeyValue.quotedAt KeyValue.simpleAt KeyValue.valueAt KeyValue.signAt KeyValue.keyAt KeyValue.parameterAt KeyValue.reads KeyValue.keyValueFrom KeyValue.keyValue Scan.runFrom Scan.startsSpace Scan.spaceLen Scan.endsKey Scan.keyLen Scan.pieceLen Scan.startsQuote Uri.firstOf Uri.text Uri.hostFits Uri.host Uri.value Uri.parameter Uri.parametersFrom Uri.parameters Uri.params Uri.dbname Uri.database Uri.path Uri.port Uri.closes Uri.bracketed Uri.chunk Uri.chunks Uri.endsHosts Uri.hostChunks Uri.hosts Uri.password Uri.credentials Uri.uri Reader.reading Taking.keeps Reader.kept Reader.outcome Reader.outcomeOf Reader.answer Reader.filled Reader.left
 alike = refl

@@ -3,8 +3,8 @@
 use Prim.Native.Nat.{ℕ}
 use mathlib.Core.Path.{_≡_, refl}
 use Rattle.number.specs.declared.Number.{Number}
-use Rattle.number.specs.declared.Number32.{Number32}
-use Rattle.number.specs.Number.{as32}
+use Rattle.integer.specs.declared.Number32.{Number32}
+use Rattle.integer.specs.Integer.{as32}
 
 -- a number of 32 bits as any number
 abbrev from32 : Number32 → Number

@@ -5,10 +5,10 @@ ghost use Rattle.number.specs.Number.{unsignedOf};
 ghost use Rattle.names.specs.Find.{wordNumber};
 ghost use Rattle.apply.specs.Apply.{wordFault, numberFault, secondsOf, secondsIn};
 ghost use Rattle.field_keys.specs.Cells.{textPut, wordPut, timePut, idlePut, keepalivesPut, retriesPut, retriesIn};
+use integer::Number32;
+use integer::Signed;
 use lists::Fault;
 use number::Number;
-use number::Number32;
-use number::Signed;
 
 // A text, kept where it stands: its three cells begin at `at`. From 30 on there is no room for them, and nothing is written; so with the other two.
 pub fn put_text(fields: &mut [usize; 32], at: usize, start: usize, len: usize) -> Fault
@@ -54,7 +54,7 @@ fn seconds_of(t: i64) -> u64
 fn read_seconds(v: &[u8]) -> Number
     ensures { λ r. ⌜ r ≡ secondsIn (now (v .entry)) ⌝ }
 {
-    match number::read_signed(v) {
+    match integer::read_signed(v) {
         Signed::Is(t) => Number::Is(seconds_of(t)),
         Signed::Form => Number::Form,
         Signed::Range => Number::Range,
@@ -122,7 +122,7 @@ pub fn put_retries(fields: &mut [usize; 32], fours: &mut [u32; 17], v: &[u8]) ->
     ensures { λ _. ⌜ now (fields .exit) ≡ retriesPut (unsignedOf (2 ^ 32 - 1) (now (v .entry))) (now (fields .entry)) ⌝ }
     ensures { λ _. ⌜ now (fours .exit) ≡ retriesIn (unsignedOf (2 ^ 32 - 1) (now (v .entry))) (now (fours .entry)) ⌝ }
 {
-    match number::read_u32(v) {
+    match integer::read_u32(v) {
         Number32::Is(n) => {
             fields[28] = 1;
             fours[0] = n;

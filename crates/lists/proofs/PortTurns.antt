@@ -6,7 +6,7 @@ use mathlib.Core.Bool.{true, false}
 use mathlib.Core.List.{List}
 use lib.ListN.{length, set, take, drop}
 use Rattle.split.specs.Split.{firstAt}
-use Rattle.number.specs.declared.Number16.{Number16}
+use Rattle.integer.specs.declared.Number16.{Number16}
 use Rattle.lists.specs.declared.Fault.{Fault}
 use Rattle.lists.specs.declared.Ports.{Ports}
 use Rattle.lists.specs.declared.MorePorts.{MorePorts}

@@ -3,7 +3,7 @@
 use mathlib.Core.Path.{_≡_, refl}
 use mathlib.Core.Bool.{Bool, true, false, _&&_}
 use mathlib.Core.List.{List, [], _∷_, _++_}
-use Prim.Native.Nat.{ℕ, _^_, _-_, _<_, _≤_}
+use Prim.Native.Nat.{ℕ, _<_, _≤_}
 use native.Mathlib.Omega.{arith}
 use lib.Dec.{ltb, leb, eqb}
 use lib.ListN.{length, getD, drop, replicate, length-append}
@@ -12,7 +12,7 @@ use Rattle.byte.specs.Byte.{pick}
 use Rattle.byte.proofs.Laws.{and-left, and-right, and-false}
 use Rattle.number.specs.declared.Number.{Number}
 use Rattle.number.specs.Digits.{allDigits, valueIn}
-use Rattle.number.specs.Number.{digitsIn, unsignedOf, signedOf, positive, negative}
+use Rattle.number.specs.Number.{digitsIn, unsignedOf}
 use Rattle.digits.proofs.Digits.{value-zeros, all-digits-zeros}
 
 -- What digits read as, told by their form and their number.
@@ -74,7 +74,7 @@ digits-zeros base max p k s h =
     let l : 0 < length (replicate k 48 ++ s) = omega (arith, length-append (replicate k 48) s) in
     rw (all-digits-zeros base p k s, value-zeros base p k s, lt-ltb _ _ l, lt-ltb _ _ h)
 
--- Signs: `+` (byte 43) and `-` (byte 45) in front, and any other byte.
+-- Signs: `+` (byte 43) in front, and any other byte.
 pub unsigned-nothing : (max : ℕ) → unsignedOf max [] ≡ digitsIn 10 max []
 unfolding unsignedOf
 unsigned-nothing max = refl
@@ -87,12 +87,3 @@ module _ (max : ℕ) (s : List ℕ) where
   pub unsigned-bare : (a : ℕ) → (a ≡ 43 → ⊥) → unsignedOf max (a ∷ s) ≡ digitsIn 10 max (a ∷ s)
   unfolding unsignedOf
   unsigned-bare a h = rw (ne-eqb a 43 h)
-
-module _ (s : List ℕ) where
-  pub signed-minus : signedOf (45 ∷ s) ≡ negative (digitsIn 10 (2 ^ 63) s)
-  unfolding signedOf
-  signed-minus = refl
-
-  pub signed-bare : (a : ℕ) → (a ≡ 45 → ⊥) → signedOf (a ∷ s) ≡ positive (unsignedOf (2 ^ 63 - 1) (a ∷ s))
-  unfolding signedOf
-  signed-bare a h = rw (ne-eqb a 45 h)

@@ -1,4 +1,2 @@
 pub mod Reading
 pub mod Laws
-pub mod Negative
-pub mod Examples

@@ -6,9 +6,9 @@ use Rattle.utf8.specs.declared.Char.{Char}
 use Rattle.utf8_state.specs.declared.State.{State}
 use Rattle.percent_check.specs.declared.Checked.{Checked}
 use Rattle.number.specs.declared.Number.{Number}
-use Rattle.number.specs.declared.Number16.{Number16}
-use Rattle.number.specs.declared.Number32.{Number32}
-use Rattle.number.specs.declared.Signed.{Signed}
+use Rattle.integer.specs.declared.Number16.{Number16}
+use Rattle.integer.specs.declared.Number32.{Number32}
+use Rattle.integer.specs.declared.Signed.{Signed}
 use Rattle.address.specs.declared.Kind.{Kind}
 use Rattle.address.specs.declared.AddressRead.{AddressRead}
 use Rattle.probe.specs.declared.Symbol.{Symbol}

@@ -12,7 +12,8 @@ ghost use Rattle.utf8.specs.Utf8.{charAt, wellFormed};
 ghost use Rattle.utf8_state.specs.Bytewise.{startState, nextState};
 ghost use Rattle.percent.specs.Percent.{decoded};
 ghost use Rattle.percent_check.specs.Plain.{checked};
-ghost use Rattle.number.specs.Number.{digitsIn, unsignedOf, signedOf, as16, as32};
+ghost use Rattle.number.specs.Number.{digitsIn, unsignedOf};
+ghost use Rattle.integer.specs.Integer.{signedOf, as16, as32};
 ghost use Rattle.decimal.specs.Decimal.{decimal, hexDigits};
 ghost use Rattle.address.specs.Address.{addressOf};
 ghost use Rattle.names.specs.Names.{keyName, wordName};
@@ -20,11 +21,11 @@ ghost use Rattle.names.specs.Find.{keyNumber, wordNumber, prefixLen};
 ghost use Rattle.probe.specs.Answers.{symbol, lacking, stateOf, measured, told, told16, told32, toldSigned, toldKind, toldAddress};
 use address::AddressRead;
 use address::Kind;
+use integer::Number16;
+use integer::Number32;
+use integer::Signed;
 use number::Number;
-use number::Number16;
-use number::Number32;
 use number::Radix;
-use number::Signed;
 use utf8_state::State;
 
 #[repr(C)]
@@ -207,7 +208,7 @@ pub extern "C" fn probe_unsigned(s: &[u8], max: u64) -> Unsigned
 pub extern "C" fn probe_u16(s: &[u8]) -> Unsigned
     ensures { λ r. ⌜ r ≡ told16 (as16 (unsignedOf 65535 (now (s .entry)))) ⌝ }
 {
-    match number::read_u16(s) {
+    match integer::read_u16(s) {
         Number16::Is(v) => Unsigned {
             kind: 0,
             value: v as u64,
@@ -221,7 +222,7 @@ pub extern "C" fn probe_u16(s: &[u8]) -> Unsigned
 pub extern "C" fn probe_u32(s: &[u8]) -> Unsigned
     ensures { λ r. ⌜ r ≡ told32 (as32 (unsignedOf (2 ^ 32 - 1) (now (s .entry)))) ⌝ }
 {
-    match number::read_u32(s) {
+    match integer::read_u32(s) {
         Number32::Is(v) => Unsigned {
             kind: 0,
             value: v as u64,
@@ -235,7 +236,7 @@ pub extern "C" fn probe_u32(s: &[u8]) -> Unsigned
 pub extern "C" fn probe_signed(s: &[u8]) -> Integer
     ensures { λ r. ⌜ r ≡ toldSigned (signedOf (now (s .entry))) ⌝ }
 {
-    match number::read_signed(s) {
+    match integer::read_signed(s) {
         Signed::Is(v) => Integer { kind: 0, value: v },
         Signed::Form => Integer { kind: 1, value: 0 },
         Signed::Range => Integer { kind: 2, value: 0 },

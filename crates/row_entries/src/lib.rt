@@ -8,7 +8,7 @@ ghost use Rattle.lists.specs.Lists.{hostOf, portNumber};
 ghost use Rattle.rows.specs.Rows.{hostsOf, addressesOf};
 use address::Address;
 use address::Kind;
-use number::Number16;
+use integer::Number16;
 
 // What a piece says; an empty one is 5432.
 pub fn read_port(piece: &[u8]) -> Number16
@@ -17,7 +17,7 @@ pub fn read_port(piece: &[u8]) -> Number16
     if piece.len() == 0 {
         return Number16::Is(5432);
     }
-    number::read_u16(piece)
+    integer::read_u16(piece)
 }
 
 // Writes an address as entry `at`.

@@ -6,8 +6,8 @@ ghost use lib.ListN.{length, getD};
 ghost use Rattle.lists.specs.Lists.{hostAfter, hostsAfter, addressesAfter, portsAfter};
 ghost use Rattle.row_lists.specs.Added.{hostsIn, addressesIn, portsIn, AddsHosts, AddsAddresses, AddsPorts};
 use address::AddressRead;
+use integer::Number16;
 use lists::Fault;
-use number::Number16;
 
 // What stands between two pieces of a value.
 const COMMA: u8 = b',';

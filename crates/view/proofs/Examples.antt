@@ -14,7 +14,8 @@ use Rattle.names.specs.Names.{wordsOf}
 use Rattle.names.specs.Find.{among, numberIn, keyNumber, wordNumber}
 use Rattle.split.specs.Split.{split}
 use Rattle.number.specs.Digits.{allDigits, valueIn, valueFrom}
-use Rattle.number.specs.Number.{digitsIn, unsignedOf, signedOf}
+use Rattle.number.specs.Number.{digitsIn, unsignedOf}
+use Rattle.integer.specs.Integer.{signedOf}
 use Rattle.lists.specs.Lists.{portPiece}
 use Rattle.config.specs.declared.SslMode.{SslMode}
 use Rattle.config.specs.declared.SslNegotiation.{SslNegotiation}

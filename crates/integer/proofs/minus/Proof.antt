@@ -3,10 +3,10 @@ use Prim.Native.Nat.{_<_, _^_}
 use native.Mathlib.Omega.{arith}
 use mir.Syntax.{w64}
 use mir.ValLaws.{toZ-pos, toZ-ofZ}
-use Rattle.number.proofs.Negative.{zero-less, negative-fits}
+use Rattle.integer.proofs.Negative.{zero-less, negative-fits}
 use borrow.Author.Needs.{needs}
-use Rattle.number.proofs.minus.Statement.{statement}
-use Rattle.number.proofs.minus.Tie as tie
+use Rattle.integer.proofs.minus.Statement.{statement}
+use Rattle.integer.proofs.minus.Tie as tie
 
 returns : tie.Need-returns
 returns c = rw (c .if1 .taken)

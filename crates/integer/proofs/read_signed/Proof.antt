@@ -1,8 +1,8 @@
 use Rattle.byte.proofs.Tests.{tests}
-use Rattle.number.specs.Number.{signedOf}
+use Rattle.integer.specs.Integer.{signedOf}
 use borrow.Author.Needs.{needs}
-use Rattle.number.proofs.read_signed.Statement.{statement}
-use Rattle.number.proofs.read_signed.Tie as tie
+use Rattle.integer.proofs.read_signed.Statement.{statement}
+use Rattle.integer.proofs.read_signed.Tie as tie
 
 at-requires : tie.Need-at-requires
 at-requires c κs = search needs

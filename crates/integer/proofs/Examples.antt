@@ -8,10 +8,11 @@ use lib.IntN.{pos, negℤ}
 use Rattle.byte.specs.Ascii.{bytes}
 use Rattle.byte.specs.Byte.{between}
 use Rattle.byte.specs.Digit.{digitOf}
 use Rattle.number.specs.declared.Number.{Number}
-use Rattle.number.specs.declared.Signed.{Signed}
-use Rattle.number.specs.Digits.{allDigits, valueFrom, valueIn}
-use Rattle.number.specs.Number.{digitsIn, unsignedOf, signedOf}
+use Rattle.integer.specs.declared.Signed.{Signed}
+use Rattle.digits.specs.Digits.{allDigits, valueFrom, valueIn}
+use Rattle.number.specs.Number.{digitsIn, unsignedOf}
+use Rattle.integer.specs.Integer.{signedOf}
 
 -- the end of a range, a piece, and what it reads as
 abbrev unsigned : List (ℕ × String × Number)

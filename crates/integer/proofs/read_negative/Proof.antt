@@ -2,11 +2,11 @@ use native.Mathlib.Omega.{arith}
 use mathlib.Core.Path.{sym, ap, _∙_}
 use mir.Syntax.{w64}
 use mir.ValLaws.{toZ-ofZ}
-use Rattle.number.specs.Number.{negative}
+use Rattle.integer.specs.Integer.{negative}
 use Rattle.number.proofs.Laws.{digits-told}
 use borrow.Author.Needs.{needs}
-use Rattle.number.proofs.read_negative.Statement.{statement}
-use Rattle.number.proofs.read_negative.Tie as tie
+use Rattle.integer.proofs.read_negative.Statement.{statement}
+use Rattle.integer.proofs.read_negative.Tie as tie
 
 digits-from-requires : tie.Need-digits-from-requires
 digits-from-requires c κs = search needs

@@ -3,12 +3,12 @@ use Prim.Native.Nat.{_^_, _<_}
 use native.Mathlib.Omega.{arith}
 use mir.Syntax.{w64}
 use mir.ValLaws.{toZ-pos}
-use Rattle.number.specs.declared.Signed.{Signed}
-use Rattle.number.specs.Number.{positive}
+use Rattle.integer.specs.declared.Signed.{Signed}
+use Rattle.integer.specs.Integer.{positive}
 use Rattle.number.proofs.Laws.{unsigned-low}
 use borrow.Author.Needs.{needs}
-use Rattle.number.proofs.read_positive.Statement.{statement}
-use Rattle.number.proofs.read_positive.Tie as tie
+use Rattle.integer.proofs.read_positive.Statement.{statement}
+use Rattle.integer.proofs.read_positive.Tie as tie
 
 read-unsigned-requires : tie.Need-read-unsigned-requires
 read-unsigned-requires c κs = search needs
