@@ -4,9 +4,9 @@ ghost use mathlib.Core.List.{[], _∷_, map};
 ghost use Rattle.byte.specs.Byte.{pick};
 ghost use Rattle.escape.specs.Escape.{textValue};
 ghost use Rattle.draw.specs.Pen.{sheet, drawn};
-ghost use Rattle.line.specs.Line.{secretValue, addressValue, numberValue, line, lines};
-ghost use Rattle.config.specs.Values.{placeShown, textShown, hostShown, hostsShown, addressesShown, portsShown, secondsShown, retriesShown};
-ghost use Rattle.fields.specs.Field.{modeNumber, negotiationNumber, targetNumber, bindingNumber, balanceNumber, optional, namedHost, switchValue};
+ghost use Rattle.line.specs.Line.{secretValue, addressValue, numberValue, lines};
+ghost use Rattle.config.specs.Values.{textShown, hostsShown, addressesShown, portsShown, secondsShown, retriesShown};
+ghost use Rattle.field.specs.Field.{modeNumber, negotiationNumber, targetNumber, bindingNumber, balanceNumber, optional, namedHost};
 use config::ChannelBinding;
 use config::ChannelBindingWord;
 use config::LoadBalanceHosts;
@@ -22,26 +22,8 @@ use config::TargetSessionAttrsWord;
 use config::Text;
 use draw::Pen;
 use lists::Addresses;
-use lists::Host;
-use lists::HostKind;
 use lists::Hosts;
-use lists::Place;
 use lists::Ports;
-
-// The bytes at a place, as far as they stand in the buffer.
-fn bytes_at(decode: &[u8], p: Place) -> &[u8]
-    ensures { λ r. ⌜ now r ≡ placeShown (now (decode .entry)) p ⌝ }
-{
-    let start = p.start;
-    if decode.len() <= start {
-        return &decode[0..0];
-    }
-    if decode.len() - start < p.len {
-        return &decode[start..];
-    }
-    let end = start + p.len;
-    &decode[start..end]
-}
 
 pub fn put_text(key: usize, t: Text, decode: &[u8], dst: &mut [u8], pen: Pen) -> Pen
     ensures { λ r. ⌜ sheet (now (dst .exit)) r ≡ drawn (sheet (now (dst .entry)) pen) (lines key (optional textValue (textShown (now (decode .entry)) t))) ⌝ }
@@ -49,7 +31,7 @@ pub fn put_text(key: usize, t: Text, decode: &[u8], dst: &mut [u8], pen: Pen) ->
     if !t.set {
         return pen;
     }
-    lines::text_line(key, bytes_at(decode, t.place), dst, pen)
+    lines::text_line(key, field::bytes_at(decode, t.place), dst, pen)
 }
 
 pub fn put_secret(key: usize, t: Text, dst: &mut [u8], pen: Pen) -> Pen
@@ -59,16 +41,6 @@ pub fn put_secret(key: usize, t: Text, dst: &mut [u8], pen: Pen) -> Pen
         return pen;
     }
     lines::secret_line(key, dst, pen)
-}
-
-fn put_host(h: Host, decode: &[u8], dst: &mut [u8], pen: Pen) -> Pen
-    ensures { λ r. ⌜ sheet (now (dst .exit)) r ≡ drawn (sheet (now (dst .entry)) pen) (line 8 (namedHost (hostShown (now (decode .entry)) h))) ⌝ }
-{
-    let kind = h.kind;
-    match kind {
-        HostKind::Tcp(p) => lines::host_line(8, false, bytes_at(decode, p), dst, pen),
-        HostKind::Unix(p) => lines::host_line(8, true, bytes_at(decode, p), dst, pen),
-    }
 }
 
 pub fn put_hosts(h: Hosts, decode: &[u8], dst: &mut [u8], pen: Pen) -> Pen
@@ -81,7 +53,7 @@ pub fn put_hosts(h: Hosts, decode: &[u8], dst: &mut [u8], pen: Pen) -> Pen
             return p;
         }
         let host = h.list[i];
-        p = put_host(host, decode, dst, p);
+        p = field::put_host(host, decode, dst, p);
         i += 1;
     }
     p
@@ -103,12 +75,6 @@ pub fn put_addresses(a: Addresses, dst: &mut [u8], pen: Pen) -> Pen
     p
 }
 
-fn put_port(port: u16, dst: &mut [u8], pen: Pen) -> Pen
-    ensures { λ r. ⌜ sheet (now (dst .exit)) r ≡ drawn (sheet (now (dst .entry)) pen) (line 10 (numberValue port)) ⌝ }
-{
-    lines::number_line(10, port as u64, dst, pen)
-}
-
 pub fn put_ports(ports: Ports, dst: &mut [u8], pen: Pen) -> Pen
     ensures { λ r. ⌜ sheet (now (dst .exit)) r ≡ drawn (sheet (now (dst .entry)) pen) (lines 10 (map numberValue (portsShown ports))) ⌝ }
 {
@@ -119,7 +85,7 @@ pub fn put_ports(ports: Ports, dst: &mut [u8], pen: Pen) -> Pen
             return p;
         }
         let port = ports.list[i];
-        p = put_port(port, dst, p);
+        p = field::put_port(port, dst, p);
         i += 1;
     }
     p
@@ -141,15 +107,6 @@ pub fn put_retries(key: usize, s: Retries, dst: &mut [u8], pen: Pen) -> Pen
         return pen;
     }
     lines::number_line(key, s.retries as u64, dst, pen)
-}
-
-pub fn put_switch(key: usize, on: bool, dst: &mut [u8], pen: Pen) -> Pen
-    ensures { λ r. ⌜ sheet (now (dst .exit)) r ≡ drawn (sheet (now (dst .entry)) pen) (line key (switchValue on)) ⌝ }
-{
-    if on {
-        return lines::number_line(key, 1, dst, pen);
-    }
-    lines::number_line(key, 0, dst, pen)
 }
 
 pub fn mode_number(w: SslModeWord) -> usize

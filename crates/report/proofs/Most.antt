@@ -25,7 +25,7 @@ use Rattle.line.proofs.Values.{secret-joined, word-joined, number-joined, host-
 use Rattle.lists.specs.declared.Place.{Place}
 use Rattle.lists.specs.declared.HostKind.{HostKind}
 use Rattle.lists.specs.declared.Host.{Host}
-use Rattle.fields.specs.Field.{modeNumber, negotiationNumber, targetNumber, bindingNumber, balanceNumber, optional, namedHost, switchValue}
+use Rattle.field.specs.Field.{modeNumber, negotiationNumber, targetNumber, bindingNumber, balanceNumber, optional, namedHost, switchValue}
 use Rattle.config.specs.declared.SslMode.{SslMode}
 use Rattle.config.specs.declared.SslNegotiation.{SslNegotiation}
 use Rattle.config.specs.declared.TargetSessionAttrs.{TargetSessionAttrs}

@@ -12,8 +12,8 @@ use Rattle.draw.specs.Pen.{Sheet, drawn}
 use Rattle.line.proofs.Lines.{draw-one, draw-more, draw-last, draw-split}
 use Rattle.config.specs.declared.Config.{Config}
 use Rattle.config.specs.Values.{textShown, hostsShown, addressesShown, portsShown, secondsShown, retriesShown, shown}
-use Rattle.fields.specs.Field.{modeNumber, negotiationNumber, targetNumber, bindingNumber, balanceNumber, optional, namedHost, switchValue}
-use Rattle.fields.proofs.Steps.{flag-shown}
+use Rattle.field.specs.Field.{modeNumber, negotiationNumber, targetNumber, bindingNumber, balanceNumber, optional, namedHost, switchValue}
+use Rattle.field.proofs.Steps.{flag-shown}
 use Rattle.report_lines.specs.Values.{values}
 
 -- a word by the number that the code tells

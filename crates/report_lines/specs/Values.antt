@@ -4,7 +4,7 @@ use Prim.Native.Nat.{ℕ}
 use mathlib.Core.List.{List, [], _∷_, map}
 use Rattle.escape.specs.Escape.{textValue}
 use Rattle.line.specs.Line.{secretValue, wordValue, numberValue, addressValue}
-use Rattle.fields.specs.Field.{modeNumber, negotiationNumber, targetNumber, bindingNumber, balanceNumber, optional, namedHost, switchValue}
+use Rattle.field.specs.Field.{modeNumber, negotiationNumber, targetNumber, bindingNumber, balanceNumber, optional, namedHost, switchValue}
 use Rattle.config.specs.Values.{Values}
 
 -- the values of each key, in key order

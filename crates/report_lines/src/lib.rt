@@ -41,7 +41,7 @@ fn put_times(c: Config, decode: &[u8], dst: &mut [u8], pen: Pen) -> Pen
 {
     let connect = fields::put_seconds(11, c.connect_timeout, dst, pen);
     let user = fields::put_seconds(12, c.tcp_user_timeout, dst, connect);
-    let keepalives = fields::put_switch(13, c.keepalives, dst, user);
+    let keepalives = field::put_switch(13, c.keepalives, dst, user);
     let idle = lines::number_line(14, c.keepalives_idle, dst, keepalives);
     let interval = fields::put_seconds(15, c.keepalives_interval, dst, idle);
     fields::put_retries(16, c.keepalives_retries, dst, interval)

@@ -32,7 +32,7 @@ use Rattle.draw.proofs.Escape.{text-none, text-cons}
 use Rattle.line.specs.Line.{wordValue, hostValue, numberValue, quadValue, kindValue}
 use Rattle.line.proofs.Values.{word-joined, number-joined, host-joined, four-joined, quad-joined, v4-joined, v6-joined, quad-size}
 use Rattle.config.specs.Values.{HostValue, tcp, unix}
-use Rattle.fields.specs.Field.{namedHost}
+use Rattle.field.specs.Field.{namedHost}
 use Rattle.telling.specs.Ranged.{Bytes, Small, NamedBytes, SmallKind}
 use Rattle.telling.specs.ReadBack.{hostBack, weigh, kindBack}
 use Rattle.telling.proofs.Free.{decimal-free, colon-hex-free, four-free}

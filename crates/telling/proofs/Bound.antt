@@ -14,7 +14,7 @@ use Rattle.draw.proofs.Escape.{text-size}
 use Rattle.line.specs.Line.{numberValue, lines}
 use Rattle.line.proofs.Lines.{lines-size-none, lines-size-cons}
 use Rattle.line.proofs.Values.{number-joined, digits-most}
-use Rattle.fields.specs.Field.{modeNumber, negotiationNumber, targetNumber, bindingNumber, balanceNumber, optional, namedHost}
+use Rattle.field.specs.Field.{modeNumber, negotiationNumber, targetNumber, bindingNumber, balanceNumber, optional, namedHost}
 use Rattle.config.specs.Values.{HostValue, tcp, unix, Values}
 use Rattle.report.specs.Report.{values, report}
 use Rattle.report.proofs.Most.{size, one-size, secret-most, seconds-most, idle-most, switch-most, word-most, mode-most, negotiation-most, target-most, binding-most, balance-most, host-most, addresses-most, total, total-is}

@@ -28,7 +28,7 @@ use Rattle.draw.proofs.Escape.{text-none, text-cons}
 use Rattle.line.specs.Line.{secretValue, wordValue, hostValue, numberValue, quadValue, kindValue}
 use Rattle.line.proofs.Values.{secret-joined, word-joined, number-joined, host-joined, four-joined, quad-joined, v4-joined, v6-joined}
 use Rattle.config.specs.Values.{HostValue, tcp, unix}
-use Rattle.fields.specs.Field.{namedHost}
+use Rattle.field.specs.Field.{namedHost}
 use Rattle.telling.specs.Ranged.{Small, SmallKind}
 
 pub free-append : (b : ℕ) (s t : List ℕ) → Free b s → Free b t → Free b (s ++ t)

@@ -18,7 +18,7 @@ use Rattle.address.specs.declared.Address.{Address}
 use Rattle.draw.specs.Parts.{joined}
 use Rattle.escape.specs.Escape.{textValue}
 use Rattle.line.specs.Line.{secretValue, wordValue, numberValue, addressValue, linesFrom}
-use Rattle.fields.specs.Field.{modeNumber, negotiationNumber, targetNumber, bindingNumber, balanceNumber, optional, namedHost, switchValue}
+use Rattle.field.specs.Field.{modeNumber, negotiationNumber, targetNumber, bindingNumber, balanceNumber, optional, namedHost, switchValue}
 use Rattle.config.specs.declared.SslMode.{SslMode}
 use Rattle.config.specs.declared.SslNegotiation.{SslNegotiation}
 use Rattle.config.specs.declared.TargetSessionAttrs.{TargetSessionAttrs}

@@ -6,7 +6,7 @@ use borrow.Author.Needs.{needs}
 use Rattle.draw.specs.Pen.{sheet}
 use Rattle.draw.proofs.Drawing.{drawn-alike}
 use Rattle.line.proofs.Lines.{Left, entry-first, entry-more, entries-counted, entries-ended}
-use Rattle.fields.proofs.Steps.{hostParts, hosts-drawn}
+use Rattle.field.proofs.Steps.{hostParts, hosts-drawn}
 use Rattle.fields.proofs.put_hosts.Statement.{statement}
 use Rattle.fields.proofs.put_hosts.Tie as tie
 

@@ -1,5 +1,5 @@
 use borrow.Author.Tests.{not-true, not-false}
-use Rattle.fields.proofs.Steps.{flag-off, flag-on}
+use Rattle.field.proofs.Steps.{flag-off, flag-on}
 use borrow.Author.Needs.{needs}
 use Rattle.fields.proofs.put_secret.Statement.{statement}
 use Rattle.fields.proofs.put_secret.Tie as tie

@@ -1,6 +1,6 @@
 use Rattle.config.specs.Values.{placeShown}
 use borrow.Author.Tests.{not-true, not-false}
-use Rattle.fields.proofs.Steps.{unset-drawn, set-drawn}
+use Rattle.field.proofs.Steps.{unset-drawn, set-drawn}
 use borrow.Author.Needs.{needs}
 use Rattle.fields.proofs.put_text.Statement.{statement}
 use Rattle.fields.proofs.put_text.Tie as tie

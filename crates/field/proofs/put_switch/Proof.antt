@@ -1,6 +1,6 @@
 use borrow.Author.Needs.{needs}
-use Rattle.fields.proofs.put_switch.Statement.{statement}
-use Rattle.fields.proofs.put_switch.Tie as tie
+use Rattle.field.proofs.put_switch.Statement.{statement}
+use Rattle.field.proofs.put_switch.Tie as tie
 
 number-line-requires : tie.Need-number-line-requires
 number-line-requires c κs = search needs

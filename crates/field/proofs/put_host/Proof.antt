@@ -1,7 +1,7 @@
-use Rattle.fields.proofs.Steps.{tcp-drawn, unix-drawn}
+use Rattle.field.proofs.Steps.{tcp-drawn, unix-drawn}
 use borrow.Author.Needs.{needs}
-use Rattle.fields.proofs.put_host.Statement.{statement}
-use Rattle.fields.proofs.put_host.Tie as tie
+use Rattle.field.proofs.put_host.Statement.{statement}
+use Rattle.field.proofs.put_host.Tie as tie
 
 enum-known-kind : tie.Need-enum-known-kind
 enum-known-kind c = search needs

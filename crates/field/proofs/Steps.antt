@@ -15,7 +15,7 @@ use Rattle.lists.specs.declared.HostKind.{HostKind}
 use Rattle.lists.specs.declared.Host.{Host}
 use Rattle.lists.specs.declared.Hosts.{Hosts}
 use Rattle.config.specs.Values.{placeShown, kindShown, hostShown, hostsShown}
-use Rattle.fields.specs.Field.{optional, namedHost, switchValue}
+use Rattle.field.specs.Field.{optional, namedHost, switchValue}
 
 -- what may be unset, by its flag
 module _ (key : ℕ) (s : Sheet) (flag : Bool) where

@@ -1,7 +1,7 @@
-use Rattle.fields.proofs.Places.{bytes-past, bytes-rest, bytes-whole}
+use Rattle.field.proofs.Places.{bytes-past, bytes-rest, bytes-whole}
 use borrow.Author.Needs.{needs}
-use Rattle.fields.proofs.bytes_at.Statement.{statement}
-use Rattle.fields.proofs.bytes_at.Tie as tie
+use Rattle.field.proofs.bytes_at.Statement.{statement}
+use Rattle.field.proofs.bytes_at.Tie as tie
 
 sub-result : tie.Need-sub-result
 sub-result c = search needs
