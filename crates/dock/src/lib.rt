@@ -3,8 +3,8 @@ ghost use mathlib.Core.Path.{_≡_};
 ghost use lib.ListN.{length};
 ghost use Rattle.outcome.specs.Outcome.{answer, left};
 ghost use Rattle.entry.specs.Entry.{entry, entryLeft};
-ghost use Rattle.dock.specs.Answers.{inOne};
-ghost use Rattle.dock.specs.Places.{place};
+ghost use Rattle.answers.specs.Answers.{inOne};
+ghost use Rattle.answers.specs.Places.{place};
 use entry::REFUSED;
 use places::NO_PLACE;
 

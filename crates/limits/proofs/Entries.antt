@@ -24,7 +24,7 @@ use Rattle.outcome.proofs.Answers.{answered}
 use Rattle.report.specs.declared.Answer.{Answer as Reported}
 use Rattle.report.specs.Answer.{reported, reportedInto}
 use Rattle.entry.specs.Entry.{told, used, reportLeft, kept, entry, entryLeft}
-use Rattle.dock.proofs.Bounds.{small}
+use Rattle.answers.proofs.Bounds.{small}
 use Rattle.demands.specs.Giving.{Read}
 use Rattle.demands.specs.Blind.{Readable}
 use Rattle.demands.proofs.Fits.{fitting}

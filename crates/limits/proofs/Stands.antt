@@ -16,7 +16,7 @@ use Rattle.config.specs.Sound.{placeIn, textIn}
 use Rattle.view.proofs.Places.{place-ends}
 use Rattle.view.proofs.Seen.{In}
 use Rattle.places.specs.Places.{textOf, nowhere, somewhere, placeOf}
-use Rattle.dock.specs.Places.{place}
+use Rattle.answers.specs.Places.{place}
 use Rattle.limits.specs.Limits.{number, given, Stands}
 use Rattle.limits.proofs.Entries.{inside, number-low, reads}
 

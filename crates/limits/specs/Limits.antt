@@ -19,7 +19,7 @@ use Rattle.telling.specs.Bound.{textBytes, hostBytes}
 use Rattle.demands.specs.Giving.{joined}
 use Rattle.entry.specs.Entry.{entry, entryLeft}
 use Rattle.places.specs.Places.{textOf, somewhere}
-use Rattle.dock.specs.Places.{place}
+use Rattle.answers.specs.Places.{place}
 
 -- "Kept values are those of user, password, dbname, options, application_name and host": how many bytes they have
 abbrev pub together : Option (List ℕ) → Option (List ℕ) → Option (List ℕ) → Option (List ℕ) → Option (List ℕ) → List HostValue → ℕ

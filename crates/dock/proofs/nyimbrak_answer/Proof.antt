@@ -5,8 +5,8 @@ use mathlib.Core.Path.{ap}
 use native.Mathlib.Omega.{arith}
 use borrow.Author.Needs.{needs}
 use Rattle.ending.specs.declared.Ending.{Ending}
-use Rattle.dock.specs.Answers.{inOne}
-use Rattle.dock.proofs.Bounds.{SmallEnding, small-ending}
+use Rattle.answers.specs.Answers.{inOne}
+use Rattle.answers.proofs.Bounds.{SmallEnding, small-ending}
 use Rattle.dock.proofs.nyimbrak_answer.Statement.{statement}
 use Rattle.dock.proofs.nyimbrak_answer.Tie as tie
 

@@ -3,8 +3,8 @@
 use borrow.Author.Needs.{needs}
 use mathlib.Core.Path.{_∙_}
 use native.Mathlib.Omega.{arith}
-use Rattle.dock.proofs.Bounds.{Small, small, within}
-use Rattle.dock.proofs.Places.{place-refused, place-told}
+use Rattle.answers.proofs.Bounds.{Small, small, within}
+use Rattle.answers.proofs.Places.{place-refused, place-told}
 use Rattle.dock.proofs.nyimbrak_place.Statement.{statement}
 use Rattle.dock.proofs.nyimbrak_place.Tie as tie
 

@@ -5,7 +5,7 @@ use lib.ListN.{length}
 use mathlib.Core.Path.{ap, _∙_}
 use native.Mathlib.Omega.{arith}
 use Rattle.byte.specs.Byte.{partOf}
-use Rattle.dock.proofs.Bounds.{Small, small}
+use Rattle.answers.proofs.Bounds.{Small, small}
 use Rattle.entry.proofs.Entry.{entry-refused, left-refused, entry-told, left-told}
 use Rattle.dock.proofs.nyimbrak_read.Statement.{statement}
 use Rattle.dock.proofs.nyimbrak_read.Tie as tie

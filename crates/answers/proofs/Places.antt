@@ -9,7 +9,7 @@ use Rattle.config.specs.declared.Text.{Text}
 use Rattle.outcome.specs.declared.Answer.{Answer}
 use Rattle.outcome.specs.Outcome.{answer}
 use Rattle.places.specs.Places.{textOf, nowhere, placeOf}
-use Rattle.dock.specs.Places.{place}
+use Rattle.answers.specs.Places.{place}
 
 module _ (s : List ℕ) (room : ℕ) (a : Answer) (e : a ≡ answer s room) where
   pub place-refused : (a .number ≡ 0 → ⊥) → (key : ℕ) → nowhere (a .number) ≡ place s room key

@@ -29,7 +29,7 @@ use Rattle.outcome.specs.declared.Answer.{Answer}
 use Rattle.ending.specs.declared.Ending.{Ending}
 use Rattle.outcome.specs.Outcome.{endingOf}
 use Rattle.outcome.specs.Outcome.{reading, kept, refusal, Outcome, outcome, outcomeOf, answer}
-use Rattle.dock.proofs.Ends.{reading-end}
+use Rattle.answers.proofs.Ends.{reading-end}
 
 pub record Small (a : Answer) : Type 0 where
   pub number : a .number ≤ 15
