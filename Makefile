@@ -1,12 +1,13 @@
 # run           read a text from standard input, write its report or its refusal
-# test          the gate: layout, every proof from nothing, then, of what is proved, the small runs beside Rust, the host in C, the program, PostgreSQL
+# test          the gate: layout, every proof from nothing, must-fail edits, then, of what is proved, the small runs beside Rust, the host in C, the program, PostgreSQL
 # test-postgres sessions opened by the gateway in C with a PostgreSQL 15 that is started for it: seconds
 # staticlib     build/libnyimbrak.a, for C to link with include/nyimbrak.h
 # differential  the large runs beside Rust: some minutes at most
+# edits         the must-fail edits of inner crates, which rt ci does not try: a quarter of an hour
 # slips         slips made on purpose in a copy of the reader, each to be noticed by the program replay: ten minutes
 # bench         instructions for one text beside the Rust's, into docs/PERFORMANCE.md
 # clean         remove what was built
-.PHONY: run test beside hosts test-postgres staticlib differential slips bench clean kit
+.PHONY: run test beside hosts edits test-postgres staticlib differential slips bench clean kit
 
 run: kit
 	@scripts/run.sh
@@ -15,6 +16,7 @@ run: kit
 test: kit
 	rt fmt --check
 	scripts/ci.sh
+	scripts/edits.sh changed
 	scripts/archive.sh all
 	$(MAKE) --no-print-directory -j 2 --output-sync=target beside hosts
 	@tail -n 1 build/ci.log
@@ -36,6 +38,9 @@ staticlib: kit
 
 differential: kit
 	differential/run.sh large
+
+edits: kit
+	scripts/edits.sh all
 
 bench: kit
 	bench/run.sh

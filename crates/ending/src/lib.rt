@@ -41,7 +41,13 @@ pub fn refuse_text(decode: &mut [u8], n: usize, number: usize, key: usize, count
 }
 
 // A text of `n` bytes refused at a setting.
-pub fn refuse_setting(decode: &mut [u8], n: usize, fault: Fault, kind: usize, count: usize) -> Ending
+pub fn refuse_setting(
+    decode: &mut [u8],
+    n: usize,
+    fault: Fault,
+    kind: usize,
+    count: usize,
+) -> Ending
     ensures { λ r. ⌜ r ≡ ending (numberOf fault) (keyOf fault kind) count ⌝ }
     ensures { λ _. ⌜ now (decode .exit) ≡ written (now (decode .entry)) 0 (replicate n 0) ⌝ }
 {
