@@ -35,7 +35,7 @@ SLIPS = [
 """),
     ]),
     ("uri_host_split_at_commas", [
-        ("param", "row_lists::add_host(", "row_lists::add_hosts("),
+        ("list_keys", "row_lists::add_host(", "row_lists::add_hosts("),
     ]),
     ("character_behind_backslash_dropped", [
         ("backslash", "{ at + 1 } else { at }", "{ at + 2 } else { at }"),
@@ -154,10 +154,10 @@ fn close_up(hosts: &mut [usize; 48], first: usize, count: usize) {
     ]),
     # the reader
     ("refusal_leaves_the_buffer", [
-        ("reader", "    byte::clear(decode, 0, n);\n", "    byte::clear(decode, n, 0);\n"),
+        ("ending", "    byte::clear(decode, 0, n);\n", "    byte::clear(decode, n, 0);\n"),
     ]),
     ("refused_setting_counted", [
-        ("reader", "        lists::key_of(fault, kind),\n        count,\n", "        lists::key_of(fault, kind),\n        count + 1,\n"),
+        ("ending", "        lists::key_of(fault, kind),\n        count,\n", "        lists::key_of(fault, kind),\n        count + 1,\n"),
     ]),
     ("longest_text_refused", [
         ("reader", "if 4096 < text.len() {", "if 4096 <= text.len() {"),
@@ -326,14 +326,14 @@ fn last_at_sign(s: &[u8], at: usize) -> usize {
 """),
     ]),
     ("room_judged_before_form", [
-        ("row_lists", "        let read = read_port(", """\
+        ("row_lists", "        let read = row_entries::read_port(", """\
         if 16 <= count {
             return Added { fault: Fault::ManyPorts, count: count };
         }
-        let read = read_port("""),
+        let read = row_entries::read_port("""),
     ]),
     ("empty_port_piece_refused", [
-        ("row_lists", "        return Number16::Is(5432);\n", "        return Number16::Form;\n"),
+        ("row_entries", "        return Number16::Is(5432);\n", "        return Number16::Form;\n"),
     ]),
     ("zero_timeout_stored", [
         ("field_keys", "            if seconds == 0 {\n                return Fault::NoFault;\n            }\n", ""),
@@ -347,7 +347,7 @@ fn last_at_sign(s: &[u8], at: usize) -> usize {
 """),
     ]),
     ("read_only_taken_for_read_write", [
-        ("rows", "word: TargetSessionAttrs::ReadOnly,", "word: TargetSessionAttrs::ReadWrite,"),
+        ("row_values", "word: TargetSessionAttrs::ReadOnly,", "word: TargetSessionAttrs::ReadWrite,"),
     ]),
     ("unknown_key_passed_over", [
         ("param", "_ => Fault::UnknownKey,", "_ => Fault::NoFault,"),
