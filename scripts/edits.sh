@@ -10,8 +10,8 @@ mkdir -p build
 
 # What an edit is tried on: the crate as it is, and its edits.
 sum_of() { # NAME
-    (cd "crates/$1" && find src specs proofs must-fail/more \( -name '*.rt' -o -name '*.antt' -o -name '*.edit' \) -print0 2>/dev/null |
-        LC_ALL=C sort -z | xargs -0 sha256sum | sha256sum | cut -d ' ' -f 1)
+    find "crates/$1" \( -path '*/must-fail/*.edit' ! -path '*/more/*' \) -o \( -name '*.rt' -o -name '*.antt' -o -name '*.edit' \) -print0 |
+        LC_ALL=C sort -z | xargs -0 sha256sum | sha256sum | cut -d ' ' -f 1
 }
 
 names=()
@@ -23,7 +23,7 @@ changed)
         [ "$(cat "$more/seen" 2>/dev/null)" = "$(sum_of "$name")" ] || names+=("$name")
     done
     if [ ${#names[@]} = 0 ]; then
-        echo 'edits: each crate is as it was when the other edits were seen refused'
+        echo 'edits: each crate is as it was when its other edits were seen refused'
         exit 0
     fi
     ;;
@@ -37,11 +37,15 @@ trap 'rm -rf "$copy"' EXIT
 cp -a crates.txt crates "$copy"
 [ ! -d target ] || { mkdir "$copy/target" && cp -a target/rlib target/stamp "$copy/target"; }
 rm -f "$copy"/crates/*/must-fail/*.edit
-for name in "${names[@]}"; do mv "$copy/crates/$name/must-fail/more"/*.edit "$copy/crates/$name/must-fail"; done
+sums=()
+for name in "${names[@]}"; do
+    sums+=("$(sum_of "$name")")
+    mv "$copy/crates/$name/must-fail/more"/*.edit "$copy/crates/$name/must-fail"
+done
 echo "edits: ${#names[@]} crates: ${names[*]}"
 if ! (cd "$copy" && rt must-fail "${names[@]}") >build/edits.log 2>&1; then
     grep -E 'NOT REFUSED|BAD EDIT|NOT PROVED|FAILED' build/edits.log >&2
     exit 1
 fi
-[ "$1" = changed ] || for name in "${names[@]}"; do sum_of "$name" >"crates/$name/must-fail/more/seen"; done
+[ "$1" = changed ] || for i in "${!names[@]}"; do echo "${sums[i]}" >"crates/${names[i]}/must-fail/more/seen"; done
 echo "edits: $(grep -c ': refused, as it must be' build/edits.log) refused, 0 not"
