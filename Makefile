@@ -3,7 +3,7 @@
 # test-postgres sessions opened by the gateway in C with a PostgreSQL 15 that is started for it: seconds
 # staticlib     build/libnyimbrak.a, for C to link with include/nyimbrak.h
 # differential  the large runs beside Rust: some minutes at most
-# edits         the must-fail edits of inner crates, which rt ci does not try: a quarter of an hour
+# edits         the must-fail edits that rt ci does not try, most of them of inner crates: twenty minutes
 # slips         slips made on purpose in a copy of the reader, each to be noticed by the program replay: ten minutes
 # bench         instructions for one text beside the Rust's, into docs/PERFORMANCE.md
 # clean         remove what was built
