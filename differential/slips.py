@@ -48,7 +48,7 @@ SLIPS = [
         if t.ended {
             let number = t.number;
             if number != 0 {
-                return refuse_text(decode, n, number, 0, 0);
+                return ending::refuse_text(decode, n, number, 0, 0);
             }
             break;
         }
