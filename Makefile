@@ -1,9 +1,9 @@
 # run           read a text from standard input, write its report or its refusal
-# test          the gate: layout, every proof from nothing, must-fail edits, then, of what is proved, the small runs beside Rust, the host in C, the program, PostgreSQL
+# test          the gate: layout, every proof, must-fail edits, programs, then, of what is proved, the small runs beside Rust, the host in C, the program, PostgreSQL
 # test-postgres sessions opened by the gateway in C with a PostgreSQL 15 that is started for it: seconds
 # staticlib     build/libnyimbrak.a, for C to link with include/nyimbrak.h
 # differential  the large runs beside Rust: some minutes at most
-# edits         the must-fail edits that rt ci does not try, most of them of inner crates: twenty minutes
+# edits         the must-fail edits alone
 # slips         slips made on purpose in a copy of the reader, each to be noticed by the program replay: ten minutes
 # bench         instructions for one text beside the Rust's, into docs/PERFORMANCE.md
 # clean         remove what was built
@@ -14,9 +14,7 @@ run: kit
 
 # rt ci goes first: what it has proved is not proved again for the archives. Its last line is said once more at the end.
 test: kit
-	rt fmt --check
 	scripts/ci.sh
-	scripts/edits.sh changed
 	scripts/archive.sh all
 	$(MAKE) --no-print-directory -j 2 --output-sync=target beside hosts
 	@tail -n 1 build/ci.log
@@ -40,7 +38,7 @@ differential: kit
 	differential/run.sh large
 
 edits: kit
-	scripts/edits.sh all
+	rt must-fail
 
 bench: kit
 	bench/run.sh
@@ -49,7 +47,7 @@ slips: kit
 	python3 differential/slips.py
 
 clean:
-	rm -rf target build differential/build
+	rm -rf build differential/build crates/*/out
 
 kit:
 	@command -v rt >/dev/null || { echo 'make: rt is missing: install the Rattle kit (README.md says which)' >&2; exit 2; }

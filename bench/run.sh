@@ -53,7 +53,7 @@ rust --crate-name bench --extern original -L native=build -l static=nyimbrak ben
 gcc -O2 -shared -fPIC -Wall -Wextra -Werror bench/count.c -o "$out/count.so"
 
 # the plugin's lines are counts, in the order of the program's lines
-qemu-x86_64 -cpu qemu64 -plugin "$out/count.so" "$out/bench" count >"$out/calls.txt" 2>"$out/counts.txt"
+qemu-x86_64 -cpu Nehalem -plugin "$out/count.so" "$out/bench" count >"$out/calls.txt" 2>"$out/counts.txt"
 [ "$(wc -l <"$out/calls.txt")" = "$(wc -l <"$out/counts.txt")" ] || { cat "$out/counts.txt" >&2 && cannot 'a count is missing'; }
 {
     paste "$out/calls.txt" "$out/counts.txt"

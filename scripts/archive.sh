@@ -3,9 +3,8 @@
 set -euo pipefail
 cd "$(dirname "$0")/.."
 . scripts/kept.sh
+archives libnyimbrak.a=dock_c
 if [ "${1:-}" = all ]; then
     programs nyimbrak probe_setters
-    archives libnyimbrak.a=dock libprobe.a=probe libprobe_record.a=probe_record
-else
-    archives libnyimbrak.a=dock
+    archives libprobe.a=probe libprobe_record.a=probe_record
 fi

@@ -4,7 +4,8 @@
 set -euo pipefail
 cd "$(dirname "$0")/.."
 . scripts/kept.sh
-build_program
+programs nyimbrak
+run=(build/nyimbrak)
 text=build/program.stdin
 wanted=build/program.wanted
 got=build/program.stdout

@@ -3,5 +3,5 @@
 set -euo pipefail
 cd "$(dirname "$0")/.."
 . scripts/kept.sh
-build_program
-exec "${run[@]}"
+programs nyimbrak
+exec build/nyimbrak

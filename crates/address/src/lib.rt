@@ -1,5 +1,6 @@
 // Addresses: IPv4 in four decimal parts, and IPv6 in the text forms of RFC 4291, section 2.2.
 #![tactic(auto)]
+
 ghost use Rattle.std.specs.Prelude.{◌≡◌};
 ghost use Rattle.address.specs.Address.{v6_of, address_of};
 ghost use Rattle.address.specs.Steps.{whole_at, around_at};

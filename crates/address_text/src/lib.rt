@@ -1,5 +1,6 @@
 // An IP address as the report's line has it, counted or written into lent memory.
 #![tactic(auto)]
+
 ghost use Rattle.std.specs.Prelude.{◌≡◌, false, [], ◌∷◌};
 ghost use Rattle.byte.specs.Ascii.{bytes};
 ghost use Rattle.decimal.specs.Decimal.{decimal, hex_digits};

@@ -30,7 +30,6 @@ use Rattle.config.specs.declared.LoadBalanceHosts.{LoadBalanceHosts}
 use Rattle.config.specs.declared.Config.{Config}
 use Rattle.config.specs.Config.{defaults}
 use Rattle.config.specs.Values.{seconds_shown, retries_shown, ports_shown}
-use Rattle.apply.specs.declared.Applied.{Applied}
 use Rattle.apply.specs.Apply.{seconds_in, fault_of, after, applied}
 
 abbrev Settings : Type 0

@@ -1,6 +1,6 @@
 -- One setting applied to a record: its kind (1 to 19 its key, 20 one host from a URI), its value, and the place of the buffer from which the value stands.
 -- Assumes nothing.
-use Rattle.std.specs.Prelude.{ℕ, ◌-◌, ◌^◌, Bool, true, false, List, [], ◌∷◌, eqb, ltb, ℤ, pos, negsuc, length, get_or}
+use Rattle.std.specs.Prelude.{ℕ, ◌-◌, ◌^◌, Bool, true, List, [], ◌∷◌, eqb, ltb, ℤ, pos, negsuc, length, get_or}
 use Rattle.byte.specs.Byte.{pick}
 use Rattle.names.specs.Find.{word_number}
 use Rattle.number.specs.declared.Number.{Number}

@@ -1,5 +1,6 @@
 // What one setting does to a record: definitions only, which param and the reader share.
 #![tactic(auto)]
+
 use config::Config;
 use lists::Fault;
 

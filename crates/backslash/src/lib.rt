@@ -1,5 +1,6 @@
 // Values with backslashes: what a piece of one adds, and the whole decoded into lent memory.
 #![tactic(auto)]
+
 ghost use Rattle.std.specs.Prelude.{◌≡◌, ◌+◌, leb, eqb, length};
 ghost use Rattle.byte.specs.Put.{written, after};
 ghost use Rattle.backslash.specs.Backslash.{gained_at, unescaped};

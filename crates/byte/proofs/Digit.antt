@@ -2,11 +2,11 @@
 -- Assumes nothing.
 use mathlib.Core.Path.{◌≡◌, refl}
 use mathlib.Core.Bool.{Bool, true, false}
-use Prim.Native.Nat.{ℕ, ◌-◌, ◌<◌, ◌≤◌}
+use Prim.Native.Nat.{ℕ, ◌-◌, ◌≤◌}
 use native.Mathlib.Omega.{arith}
 use Rattle.byte.specs.Byte.{pick, between}
 use Rattle.byte.specs.Digit.{digit_of}
-use Rattle.byte.proofs.Laws.{In, between_in}
+use Rattle.byte.proofs.Laws.{between_in}
 
 -- a digit's value, or 16
 pub digit-most : (b : ℕ) → digit_of b ≤ 16

@@ -3,14 +3,13 @@
 use mathlib.Core.Path.{◌≡◌, refl, sym, ap, ◌∙◌}
 use mathlib.Core.Bool.{Bool, true, false}
 use mathlib.Core.List.{List, [], ◌∷◌, ◌++◌, append_assoc, append-nil}
-use Prim.Native.Nat.{ℕ, zero, suc, ◌+◌, ◌-◌, ◌<◌, ◌≤◌}
+use Prim.Native.Nat.{ℕ, suc, ◌+◌, ◌<◌, ◌≤◌}
 use native.Mathlib.Numerals.{add-one}
 use native.Mathlib.Nat.{add-zero}
 use native.Mathlib.Omega.{arith}
-use lib.Dec.{leb}
-use lib.ListN.{length, take, drop, set, length-append, length-drop, length-take, take-append-drop}
-use lib.Seq.{take_at, drop_at, length-take-le, drop-append-add, drop-drop, set_split, append_snoc, take-append-le}
-use borrow.Author.Tests.{le-leb, lt-leb, leb-true, leb-false}
+use lib.ListN.{length, take, drop, set, length-append, length-drop, take-append-drop}
+use lib.Seq.{take_at, drop_at, length-take-le, drop-append-add, drop-drop, set_split, append_snoc}
+use borrow.Author.Tests.{le-leb, lt-leb, leb-true}
 use Rattle.byte.specs.Byte.{pick}
 use Rattle.byte.specs.Put.{put, fits, written, after}
 

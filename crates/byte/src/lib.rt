@@ -1,5 +1,6 @@
 // Bytes of lent memory: total reads, tests, and writes that have room or write nothing.
 #![tactic(auto)]
+
 ghost use Rattle.std.specs.Prelude.{◌≡◌, [], ◌∷◌, ◌+◌, leb, length, get_or, replicate};
 ghost use Rattle.byte.specs.Byte.{between, part_of};
 ghost use Rattle.byte.specs.Same.{same, stands_at};

@@ -1,6 +1,6 @@
 -- The default record.
 -- Assumes nothing.
-use Rattle.std.specs.Prelude.{ℕ, Bool, true, false, replicate}
+use Rattle.std.specs.Prelude.{true, false, replicate}
 use Rattle.address.specs.declared.Kind.{Kind}
 use Rattle.lists.specs.declared.Place.{Place}
 use Rattle.lists.specs.declared.HostKind.{HostKind}

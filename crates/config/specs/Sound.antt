@@ -1,6 +1,6 @@
 -- Which records a report takes: 17 is given where "the record given has a list count above 16, or a set text or counted host that lies outside the decode buffer".
 -- Assumes nothing.
-use Rattle.std.specs.Prelude.{ℕ, ◌-◌, Bool, true, false, ◌&&◌, List, [], ◌∷◌, leb, length, take}
+use Rattle.std.specs.Prelude.{ℕ, ◌-◌, Bool, true, ◌&&◌, List, [], ◌∷◌, leb, take}
 use Rattle.byte.specs.Byte.{pick}
 use Rattle.lists.specs.declared.Place.{Place}
 use Rattle.lists.specs.declared.HostKind.{HostKind}

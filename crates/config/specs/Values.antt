@@ -1,6 +1,6 @@
 -- What a record shows, given the decode buffer that its places lie in: values, and no places.
 -- Assumes nothing.
-use Rattle.std.specs.Prelude.{ℕ, Bool, true, false, List, map, take, drop}
+use Rattle.std.specs.Prelude.{ℕ, Bool, List, map, take, drop}
 use Rattle.std.proofs.Math.Option.{Option, some, none}
 use Rattle.byte.specs.Byte.{pick}
 use Rattle.address.specs.declared.Address.{Address}

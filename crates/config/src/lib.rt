@@ -1,5 +1,6 @@
 // The record of a connection's settings: a field for each key, in key order.
 #![tactic(auto)]
+
 ghost use Rattle.std.specs.Prelude.{◌≡◌};
 ghost use Rattle.config.specs.Config.{defaults};
 

@@ -1,5 +1,6 @@
 // Numbers written into lent memory: plain decimal, and hex digits of a fixed count. With no room nothing is written.
 #![tactic(auto)]
+
 ghost use Rattle.std.specs.Prelude.{◌≡◌, true, false, ◌+◌, ◌<◌, ◌≤◌, length};
 ghost use Rattle.byte.specs.Put.{written, after};
 ghost use Rattle.decimal.specs.Decimal.{digit_byte, fixed_digits, hex_digits, decimal};

@@ -6,7 +6,7 @@ use mathlib.Core.List.{List}
 use lib.ListN.{length}
 use Rattle.view.specs.Given.{Told, plain, told}
 use Rattle.view.specs.Hidden.{hidden_told}
-use Rattle.view.proofs.Hidden.{same-told}
+use Rattle.view.proofs.Veiled.{same-told}
 use Rattle.outcome.specs.Outcome.{reading, answer, left}
 use Rattle.demands.specs.Blind.{Readable, Alike, SameButPassword, tells}
 use Rattle.demands.proofs.Shows.{read-tells}

@@ -14,7 +14,7 @@ use Rattle.outcome.specs.Outcome.{reading, Outcome, outcome_of, filled, left}
 use Rattle.outcome.proofs.Answers as Answers
 use Rattle.demands.specs.Giving.{joined, Fails, Whole, Read}
 use Rattle.demands.specs.Leaving.{Leaves}
-use Rattle.demands.proofs.Kept.{kept-fits}
+use Rattle.demands.proofs.Whole.{kept-fits}
 use Rattle.demands.proofs.Applying.{outcome-fails}
 use Rattle.demands.proofs.Answering.{whole-refused, whole-accepted}
 

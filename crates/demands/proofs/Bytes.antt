@@ -5,8 +5,8 @@ use mathlib.Core.Path.{◌≡◌, refl, sym, subst}
 use mathlib.Core.Bool.{Bool, true, false, ◌&&◌}
 use mathlib.Core.List.{List, [], ◌∷◌, ◌++◌}
 use native.Mathlib.Omega.{arith}
-use lib.Dec.{eqb, ltb}
-use lib.ListN.{take, drop, length, get_or}
+use lib.Dec.{eqb}
+use lib.ListN.{drop, length, get_or}
 use borrow.Author.Tests.{ltb-true, eqb-false}
 use Rattle.byte.specs.Byte.{pick, part_of}
 use Rattle.byte.specs.Digit.{digit_of}

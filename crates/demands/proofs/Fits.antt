@@ -13,7 +13,7 @@ use Rattle.outcome.specs.declared.Answer.{Answer}
 use Rattle.outcome.specs.Outcome.{reading, Outcome, outcome_of, answer}
 use Rattle.demands.specs.Giving.{Fails, Whole, Gives, too_long, no_room, not-utf8, first-fails, end-refuses, accepts}
 use Rattle.demands.specs.Leaving.{Fitting}
-use Rattle.demands.proofs.Kept.{kept-fits, settings-fit}
+use Rattle.demands.proofs.Whole.{kept-fits, settings-fit}
 use Rattle.demands.proofs.Applying.{fails-or-whole, outcome-fails}
 use Rattle.demands.proofs.Answering.{whole-refused, whole-accepted, gives}
 

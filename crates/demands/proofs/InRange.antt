@@ -1,15 +1,13 @@
 -- What a reading tells is in range: numbers of their widths, bytes below 256.
 -- Assumes nothing.
-use Prim.Native.Nat.{ℕ, zero, suc, ◌+◌, ◌-◌, ◌^◌, ◌≤◌, ◌<◌}
+use Prim.Native.Nat.{ℕ, zero, suc, ◌+◌, ◌-◌, ◌^◌, ◌<◌}
 use mathlib.Core.Path.{◌≡◌, refl, sym, subst}
-use mathlib.Core.Bool.{Bool, true, false}
 use mathlib.Core.List.{List, [], ◌∷◌, ◌++◌, map}
-use mathlib.Core.Option.{Option, some, none}
+use mathlib.Core.Option.{Option, some}
 use native.Mathlib.Omega.{arith}
 use lib.Dec.{eqb}
-use lib.IntN.{ℤ, pos, neg_ℤ}
+use lib.IntN.{pos, neg_ℤ}
 use lib.ListN.{length, get_or, drop}
-use Rattle.byte.specs.Byte.{pick}
 use Rattle.number.specs.declared.Number.{Number}
 use Rattle.number.specs.Number.{digits_in, unsigned_of}
 use Rattle.integer.specs.Integer.{negative, positive, signed_of}
@@ -28,7 +26,7 @@ use Rattle.config.specs.Config.{defaults}
 use Rattle.config.specs.Values.{HostValue, tcp, unix, Values, shown}
 use Rattle.setting.specs.Setting.{Setting, kind_of, value_of}
 use Rattle.apply.specs.Apply.{seconds_of, seconds_read, seconds_in, idle_after}
-use Rattle.view.specs.Given.{entries_of, host_value, host_pieces, one_host_piece, address_pieces, port_pieces, time_given, retries_given, refused, given, Told, plain, tell_refusal, told}
+use Rattle.view.specs.Given.{entries_of, host_value, one_host_piece, time_given, retries_given, refused, given, Told, plain, tell_refusal, told}
 use Rattle.telling.specs.Bound.{All, Maybe}
 use Rattle.telling.specs.Ranged.{Bytes, Small, NamedBytes, HostsBytes, SmallKind, SmallAddresses, Ranged}
 use Rattle.outcome.specs.Outcome.{reading, answer, left}

@@ -5,9 +5,7 @@ use mathlib.Core.Path.{◌≡◌, refl, sym, ap, subst, ◌∙◌}
 use mathlib.Core.Bool.{Bool, true, false}
 use mathlib.Core.List.{List, ◌++◌}
 use native.Mathlib.Omega.{arith}
-use lib.Dec.{eqb}
 use lib.ListN.{length, drop, length-append}
-use borrow.Author.Tests.{eqb-false}
 use Rattle.byte.specs.Byte.{pick}
 use Rattle.names.specs.Find.{prefix_len}
 use Rattle.names.proofs.Prefix.{prefix-long}
@@ -22,7 +20,7 @@ use Rattle.url_parser.specs.Step.{url}
 use Rattle.url_parser.specs.Uri.{uri}
 use Rattle.url_parser.proofs.Reading.{reading-start, left-start}
 use Rattle.taking.specs.Taking.{keeps}
-use Rattle.outcome.specs.Outcome.{reading, kept}
+use Rattle.outcome.specs.Outcome.{kept}
 use Rattle.taking.specs.Taking.{next_at}
 use Rattle.taking.proofs.Next.{from, measure, Next, next-found, next-ended}
 use Rattle.demands.specs.Giving.{joined}
@@ -67,35 +65,19 @@ module _ (s : List ℕ) (is_uri : Bool) where
 
 -- of the whole text
 module _ (s : List ℕ) where
-  abbrev FitsWhole : Reading → Type 0
+  abbrev pub FitsWhole : Reading → Type 0
   FitsWhole r = (length (joined r.settings) ≤ length s) × (length s ≤ 4096 → length r.settings ≤ 8172)
 
-  fits-pairs : FitsWhole (key_value s)
+  pub fits-pairs : FitsWhole (key_value s)
   unfolding from measure
   fits-pairs =
       let i : Fit s false (url Stage.Credentials 0) (key_value s) = fit s false (url Stage.Credentials 0) (omega arith) in
       (omega (arith, i.0), λ h. omega (arith, i.1))
 
-  fits-uri : (prefix_len s ≡ 0 → ⊥) → FitsWhole (uri (drop (prefix_len s) s))
+  pub fits-uri : (prefix_len s ≡ 0 → ⊥) → FitsWhole (uri (drop (prefix_len s) s))
   unfolding from measure
   fits-uri h =
       let p : ℕ = prefix_len s in
       let l = prefix-long s h in
       let i : Fit s true (url Stage.Credentials p) (uri (drop p s)) = subst (Fit s true (url Stage.Credentials p)) (reading-start s p) (fit s true (url Stage.Credentials p) l.1) in
       (omega (arith, i.0), λ h. omega (arith, i.1, left-start s p, l.0))
-
-  fits_whole : FitsWhole (reading s)
-  unfolding reading
-  fits_whole = by (eqb (prefix_len s) 0) refl
-    where
-      by : (k : Bool) → eqb (prefix_len s) 0 ≡ k → FitsWhole (pick k (key_value s) (uri (drop (prefix_len s) s)))
-      by true e = fits-pairs
-      by false e = fits-uri (eqb-false (prefix_len s) 0 e)
-
-  -- the kept bytes of a reading never pass the text's length
-  pub kept-fits : length (joined (reading s).settings) ≤ length s
-  kept-fits = fits_whole.0
-
-  -- a text within the limit has at most 8,172 settings
-  pub settings-fit : length s ≤ 4096 → length (reading s).settings ≤ 8172
-  settings-fit = fits_whole.1

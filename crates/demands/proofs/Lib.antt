@@ -1,5 +1,6 @@
 pub mod Table
 pub mod Kept
+pub mod Whole
 pub mod Applying
 pub mod Reasons
 pub mod Ends

@@ -3,15 +3,12 @@
 use Prim.Native.Nat.{ℕ}
 use mathlib.Core.Path.{◌≡◌}
 use mathlib.Core.List.{List}
-use lib.Dec.{leb}
 use lib.ListN.{length}
-use Rattle.byte.specs.Byte.{pick}
 use Rattle.byte.specs.Put.{written}
 use Rattle.config.specs.Values.{shown}
-use Rattle.report.specs.declared.Answer.{Answer}
 use Rattle.report.specs.Report.{report}
 use Rattle.report.specs.Answer.{reported, reported_into}
-use Rattle.telling.proofs.Told as Told
+use Rattle.telling.proofs.Equal as Equal
 use Rattle.outcome.specs.Outcome.{reading, answer, left}
 use Rattle.demands.specs.Blind.{Readable, Alike}
 use Rattle.demands.proofs.Shows.{read-sound}
@@ -19,7 +16,7 @@ use Rattle.demands.proofs.Blind.{blind}
 
 module _ (s t d e : List ℕ) (r : Readable s d) (q : Readable t e) (a : Alike (reading s) (reading t)) where
   pub same-report : report (shown (left s d) (answer s (length d)).config) ≡ report (shown (left t e) (answer t (length e)).config)
-  same-report = Told.blind _ _ (blind s t d e r q a).values
+  same-report = Equal.blind _ _ (blind s t d e r q a).values
 
   -- the report function answers the same for buffers of one length
   pub same_answer : (n : ℕ) → reported (left s d) (answer s (length d)).config n ≡ reported (left t e) (answer t (length e)).config n

@@ -22,7 +22,7 @@ use Rattle.config.specs.Sound.{sound}
 use Rattle.apply.specs.declared.Applied.{Applied}
 use Rattle.apply.specs.Apply.{after, applied}
 use Rattle.apply.proofs.Laws.{applied-fault, applied-fine}
-use Rattle.view.specs.Given.{refused as refused_by, given, Told, plain, tell_refusal, told}
+use Rattle.view.specs.Given.{refused as refused_by, Told, plain, tell_refusal, told}
 use Rattle.view.proofs.Seen.{In, defaults-in, in_on, in-sound, shown-grows, Packs, seen-fault, seen, still-in}
 use Rattle.view.proofs.Told.{told-end, told-on, told-off}
 use Rattle.outcome.specs.declared.Answer.{Answer}

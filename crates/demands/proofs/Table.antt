@@ -1,7 +1,7 @@
 -- "Those marked P are the set to prove, gathered into a single table under a single statement": every row of the table holds, by computation.
 -- Assumes nothing.
 use mathlib.Core.Path.{◌≡◌, refl}
-use mathlib.Core.List.{List, map}
+use mathlib.Core.List.{map}
 use Rattle.byte.specs.Byte as Byte
 use Rattle.byte.specs.Digit as Digit
 use Rattle.byte.specs.Put as Put

@@ -18,12 +18,12 @@ use Rattle.report.specs.declared.Answer.{Answer as Told}
 use Rattle.report.specs.Report.{report}
 use Rattle.report.specs.Answer.{reported, reported_into}
 use Rattle.report.proofs.Exactly.{told-length, stands-in-front}
-use Rattle.telling.proofs.Told.{telling}
+use Rattle.telling.proofs.Equal.{telling}
 use Rattle.outcome.specs.declared.Answer.{Answer}
 use Rattle.outcome.specs.Outcome.{reading, refusal, answer, left}
 use Rattle.outcome.proofs.Answers.{too_long, no_room, not-utf8}
 use Rattle.demands.specs.Blind.{Readable, Alike}
-use Rattle.demands.specs.Telling.{Run, ran, report_in, report_of, Reported, SameReport, Telling, DemandThree}
+use Rattle.demands.specs.Telling.{ran, report_in, report_of, Reported, SameReport, Telling, DemandThree}
 use Rattle.demands.proofs.Shows.{read-sound}
 use Rattle.demands.proofs.Blind.{blind}
 use Rattle.demands.proofs.Reports.{same-report, same_answer, writes}

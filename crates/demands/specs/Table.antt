@@ -1,6 +1,6 @@
 -- The texts at the edges that document 01 marks P: what each gives, and what it leaves in a decode buffer that is two bytes longer and held sevens.
 -- Assumes nothing.
-use Rattle.std.specs.Prelude.{ℕ, ◌+◌, ◌-◌, true, false, List, [], ◌∷◌, ◌++◌, length, replicate}
+use Rattle.std.specs.Prelude.{ℕ, ◌+◌, ◌-◌, true, List, [], ◌∷◌, ◌++◌, length, replicate}
 use Prim.Native.String.{String}
 use Rattle.byte.specs.Ascii.{bytes}
 use Rattle.lists.specs.declared.HostKind.{HostKind}

@@ -1,5 +1,6 @@
 // Digits in a base: whether a piece has no others, and whether a number stays within a range with one more.
 #![tactic(auto)]
+
 ghost use Rattle.std.specs.Prelude.{◌≡◌, ◌+◌, ◌*◌, ◌<◌, leb, drop};
 ghost use Rattle.digits.specs.Digits.{all_digits};
 

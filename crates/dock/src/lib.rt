@@ -1,5 +1,6 @@
-// What a C host links: a text read and answered by one number, with the report or the values left in memory that the host lends.
+// What a C host is given (crate dock_c exports it): a text read and answered by one number, with the report or the values left in memory that the host lends.
 #![tactic(auto)]
+
 ghost use Rattle.std.specs.Prelude.{◌≡◌, length};
 ghost use Rattle.outcome.specs.Outcome.{answer, left};
 ghost use Rattle.entry.specs.Entry.{entry, entry_left};
@@ -10,8 +11,7 @@ use entry::REFUSED;
 use places::NO_PLACE;
 
 // A text's number, key and count: number + 2^8 · key + 2^16 · count.
-#[unsafe(no_mangle)]
-pub extern "C" fn nyimbrak_answer(text: &[u8], decode: &mut [u8]) -> u64
+pub fn nyimbrak_answer(text: &[u8], decode: &mut [u8]) -> u64
     ensures value { result ≡ in_one (answer text.now (length decode.old)) }
     ensures decode_after { decode.new ≡ left text.now decode.old }
 {
@@ -20,8 +20,7 @@ pub extern "C" fn nyimbrak_answer(text: &[u8], decode: &mut [u8]) -> u64
 }
 
 // The length of a text's report, which is written into `report`; or 1,000,000 plus the refusal, with `report` as it was.
-#[unsafe(no_mangle)]
-pub extern "C" fn nyimbrak_read(text: &[u8], decode: &mut [u8], report: &mut [u8]) -> u32
+pub fn nyimbrak_read(text: &[u8], decode: &mut [u8], report: &mut [u8]) -> u32
     ensures value { result ≡ entry text.now decode.old (length report.old) }
     ensures decode_after { decode.new ≡ left text.now decode.old }
     ensures report_after { report.new ≡ entry_left text.now decode.old report.old }
@@ -36,8 +35,7 @@ pub extern "C" fn nyimbrak_read(text: &[u8], decode: &mut [u8], report: &mut [u8
 }
 
 // Where the value of a key, 1 to 5, lies in `decode`: 2^62 + 2^16 · start + length, or 0 where it is not set, or 2^63 plus the refusal.
-#[unsafe(no_mangle)]
-pub extern "C" fn nyimbrak_place(text: &[u8], decode: &mut [u8], key: u32) -> u64
+pub fn nyimbrak_place(text: &[u8], decode: &mut [u8], key: u32) -> u64
     ensures value { result ≡ place text.now (length decode.old) key }
     ensures decode_after { decode.new ≡ left text.now decode.old }
 {

@@ -1,19 +1,15 @@
 -- Laws of drawing: a part, parts one after the other, and what a whole text comes to.
 -- Assumes nothing.
-use Prim.Native.Nat.{ℕ, ◌+◌, ◌≤◌, ◌<◌}
+use Prim.Native.Nat.{ℕ, ◌+◌}
 use mathlib.Core.Path.{◌≡◌, refl, sym, ap, ◌∙◌}
 use mathlib.Core.Bool.{Bool, true, false, ◌&&◌}
 use mathlib.Core.List.{List, [], ◌∷◌, ◌++◌}
-use native.Mathlib.Omega.{arith}
-use native.Mathlib.Nat.{add-zero}
 use lib.Dec.{leb}
-use lib.ListN.{length, length-append}
-use borrow.Author.Tests.{le-leb, lt-leb, leb-true, leb-false}
+use lib.ListN.{length}
 use Rattle.byte.specs.Byte.{pick}
-use Rattle.byte.specs.Put.{put, written}
-use Rattle.byte.proofs.Writing.{written-room, written-nil, length-written, put-nil, put-append, length-put}
+use Rattle.byte.specs.Put.{written}
+use Rattle.byte.proofs.Writing.{length-written}
 use Rattle.draw.specs.declared.Pen.{Pen}
-use Rattle.draw.specs.Parts.{joined}
 use Rattle.draw.specs.Pen.{Sheet, sheet, moved, draw_one, drawn}
 
 -- a pen that is moved: stopped already, without room, with room

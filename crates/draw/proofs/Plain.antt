@@ -14,7 +14,7 @@ use Rattle.escape.specs.Escape.{plain, all_plain, escape, text_value}
 use Rattle.escape.proofs.Escape.{escape-plain}
 use Rattle.draw.specs.declared.Pen.{Pen}
 use Rattle.draw.specs.Parts.{joined}
-use Rattle.draw.specs.Pen.{Sheet, sheet, moved, drawn}
+use Rattle.draw.specs.Pen.{sheet, moved, drawn}
 use Rattle.draw.proofs.Parts.{joined-one}
 use Rattle.draw.proofs.Escape.{text-none, text-cons}
 use Rattle.draw.proofs.Whole.{pen, counted, inked}

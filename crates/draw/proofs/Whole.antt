@@ -1,17 +1,15 @@
 -- What a whole text in parts comes to: counted by a pen without ink, written by a pen with ink.
 -- Assumes nothing.
 use Prim.Native.Nat.{ℕ, ◌+◌, ◌≤◌, ◌<◌}
-use mathlib.Core.Path.{◌≡◌, refl, sym, ap, ◌∙◌}
-use mathlib.Core.Bool.{Bool, true, false, ◌&&◌}
-use mathlib.Core.List.{List, [], ◌∷◌, ◌++◌}
+use mathlib.Core.Path.{◌≡◌, refl, ap, ◌∙◌}
+use mathlib.Core.Bool.{Bool, true, false}
+use mathlib.Core.List.{List, [], ◌∷◌}
 use native.Mathlib.Omega.{arith}
 use native.Mathlib.Nat.{add-zero}
 use lib.Dec.{leb}
-use lib.ListN.{length, length-append}
+use lib.ListN.{length}
 use borrow.Author.Tests.{le-leb, lt-leb, leb-true, leb-false}
-use Rattle.byte.specs.Byte.{pick}
-use Rattle.byte.specs.Put.{put, written}
-use Rattle.byte.proofs.Laws.{and-false}
+use Rattle.byte.specs.Put.{put}
 use Rattle.byte.proofs.Writing.{written-room, put-nil, put-append, length-put}
 use Rattle.draw.specs.declared.Pen.{Pen}
 use Rattle.draw.specs.Parts.{joined}

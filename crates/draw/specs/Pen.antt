@@ -1,6 +1,6 @@
 -- Texts in parts that are counted, or written into lent memory: a part that finds no room stops the pen for good.
 -- Assumes nothing.
-use Rattle.std.specs.Prelude.{ℕ, ◌+◌, Bool, true, false, ◌&&◌, List, [], ◌∷◌, leb, length}
+use Rattle.std.specs.Prelude.{ℕ, ◌+◌, true, false, ◌&&◌, List, [], ◌∷◌, leb, length}
 use Rattle.byte.specs.Byte.{pick}
 use Rattle.byte.specs.Put.{written}
 use Rattle.draw.specs.declared.Pen.{Pen}

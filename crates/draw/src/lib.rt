@@ -1,5 +1,6 @@
 // Bytes in parts, each counted, or written into lent memory, by the same function.
 #![tactic(auto)]
+
 ghost use Rattle.std.specs.Prelude.{◌≡◌, ◌&&◌, false, [], ◌∷◌, ltb, length};
 ghost use Rattle.byte.specs.Byte.{pick};
 ghost use Rattle.byte.specs.Put.{written, after};

@@ -1,5 +1,6 @@
 // How a reading ends: its numbers, and what is left in the decode buffer of a text refused or accepted.
 #![tactic(auto)]
+
 ghost use Rattle.std.specs.Prelude.{◌≡◌, ◌-◌, replicate};
 ghost use Rattle.byte.specs.Put.{written};
 ghost use Rattle.lists.specs.Fault.{number_of, key_of};

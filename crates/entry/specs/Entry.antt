@@ -1,6 +1,6 @@
 -- The dock's entry: "text, decode buffer and report buffer in, one number out".
 -- Assumes nothing.
-use Rattle.std.specs.Prelude.{ℕ, ◌+◌, Bool, true, false, List, ◌++◌, eqb, leb, length, take, drop}
+use Rattle.std.specs.Prelude.{ℕ, ◌+◌, List, ◌++◌, eqb, leb, length, take, drop}
 use Rattle.byte.specs.Byte.{pick, part_of}
 use Rattle.config.specs.declared.Config.{Config}
 use Rattle.outcome.specs.Outcome.{answer, left}

@@ -1,5 +1,6 @@
 // The report of a record, or why there is none, as one number; and what the dock's entry answers and leaves.
 #![tactic(auto)]
+
 ghost use Rattle.std.specs.Prelude.{◌≡◌, length};
 ghost use Rattle.report.specs.Answer.{reported};
 ghost use Rattle.entry.specs.Entry.{told, used, report_left};

@@ -1,5 +1,6 @@
 // A byte as it stands in a report, or escaped.
 #![tactic(auto)]
+
 ghost use Rattle.std.specs.Prelude.{◌≡◌, ltb, length};
 ghost use Rattle.byte.specs.Byte.{pick};
 ghost use Rattle.byte.specs.Put.{written, after};

@@ -4,10 +4,10 @@ use Prim.Native.Nat.{ℕ}
 use mathlib.Core.Path.{◌≡◌, refl, sym, ap, ◌∙◌}
 use mathlib.Core.Bool.{Bool, true, false}
 use mathlib.Core.List.{List, [], ◌∷◌, map}
-use mathlib.Core.Option.{Option, some, none}
+use mathlib.Core.Option.{some, none}
 use lib.ListN.{take}
 use Rattle.byte.specs.Byte.{pick}
-use Rattle.line.specs.Line.{host_value, number_value, line, lines}
+use Rattle.line.specs.Line.{host_value, line, lines}
 use Rattle.draw.specs.Pen.{Sheet, drawn}
 use Rattle.line.proofs.Lines.{draw-none, draw-one}
 use Rattle.lists.specs.declared.Place.{Place}
@@ -15,7 +15,7 @@ use Rattle.lists.specs.declared.HostKind.{HostKind}
 use Rattle.lists.specs.declared.Host.{Host}
 use Rattle.lists.specs.declared.Hosts.{Hosts}
 use Rattle.config.specs.Values.{place_shown, kind_shown, host_shown, hosts_shown}
-use Rattle.field.specs.Field.{optional, named_host, switch_value}
+use Rattle.field.specs.Field.{optional, named_host}
 
 -- what may be unset, by its flag
 module _ (key : ℕ) (s : Sheet) (flag : Bool) where

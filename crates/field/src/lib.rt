@@ -1,5 +1,6 @@
 // What a field of a record reads as in the report; and the line of a field, or of a list's entry, that is always set.
 #![tactic(auto)]
+
 ghost use Rattle.std.specs.Prelude.{◌≡◌};
 ghost use Rattle.draw.specs.Pen.{sheet, drawn};
 ghost use Rattle.line.specs.Line.{number_value, line};

@@ -1,6 +1,5 @@
 -- What a number of 32 bits says of the number that was read.
 -- Assumes nothing.
-use Prim.Native.Nat.{ℕ}
 use mathlib.Core.Path.{◌≡◌, refl}
 use Rattle.number.specs.declared.Number.{Number}
 use Rattle.integer.specs.declared.Number32.{Number32}

@@ -1,5 +1,6 @@
 // The settings whose values stand in cells of the row `fields`: each function writes the cells of one field.
 #![tactic(auto)]
+
 ghost use Rattle.std.specs.Prelude.{◌≡◌, ◌-◌, ◌^◌};
 ghost use Rattle.number.specs.Number.{unsigned_of};
 ghost use Rattle.names.specs.Find.{word_number};

@@ -1,5 +1,6 @@
 // The lines of a record's fields, a function for each kind of field.
 #![tactic(auto)]
+
 ghost use Rattle.std.specs.Prelude.{◌≡◌, [], ◌∷◌, map};
 ghost use Rattle.byte.specs.Byte.{pick};
 ghost use Rattle.escape.specs.Escape.{text_value};

@@ -1,5 +1,6 @@
 // Groups of an IPv6 address in text: RFC 4291, section 2.2, between colons and around a double colon.
 #![tactic(auto)]
+
 ghost use Rattle.std.specs.Prelude.{◌≡◌};
 ghost use Rattle.split.specs.Split.{split};
 ghost use Rattle.groups.specs.Eight.{packed};

@@ -1,5 +1,6 @@
 // Groups of an IPv6 address in an array of eight.
 #![tactic(auto)]
+
 ghost use Rattle.std.specs.Prelude.{◌≡◌, [], ◌<◌, ◌≤◌};
 ghost use Rattle.std.proofs.Math.Option.{none, some};
 ghost use Rattle.groups.specs.Eight.{packed, pushed, group_at, quad_at};

@@ -1,7 +1,7 @@
 -- A refused setter changes nothing: stated of what a call in place answers and leaves.
 -- Assumes nothing.
 use Prim.Native.Nat.{ℕ}
-use mathlib.Core.Path.{◌≡◌, sym, ◌∙◌}
+use mathlib.Core.Path.{◌≡◌, ◌∙◌}
 use Rattle.config.specs.declared.Config.{Config}
 use Rattle.setters.specs.Setter.{Value, set}
 use Rattle.setters.proofs.Answers.{refused-same}

@@ -1,5 +1,6 @@
 // Setters that change the caller's own record: each calls the one that takes the record by value and stores its record over the old one.
 #![tactic(auto)]
+
 ghost use Rattle.std.specs.Prelude.{◌≡◌};
 ghost use Rattle.setters.specs.Setter.{number, set};
 

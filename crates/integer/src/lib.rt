@@ -1,5 +1,6 @@
 // Numbers as integers: unsigned ones of 16 and 32 bits, and signed ones of 64.
 #![tactic(auto)]
+
 ghost use Rattle.std.specs.Prelude.{◌≡◌, ◌-◌, ◌^◌, ◌≤◌, pos, neg_ℤ, drop};
 ghost use Rattle.number.specs.Number.{digits_in, unsigned_of};
 ghost use Rattle.integer.specs.Integer.{signed_of, positive, negative, as16, as32};

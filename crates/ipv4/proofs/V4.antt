@@ -17,7 +17,7 @@ use Rattle.number.specs.Number.{digits_in}
 use Rattle.digits.proofs.Digits.{all-digits-cons}
 use Rattle.number.proofs.Laws.{digits-form, digits-told}
 use Rattle.split.specs.Split.{first_at, split}
-use Rattle.split.proofs.Split.{Free, free-nil, free-cons, split-more, split-last, split-free, split-first, behind, first-most}
+use Rattle.split.proofs.Split.{Free, free-nil, free-cons, split-more, split-last, split-free, split-first, first-most}
 use Rattle.ipv4.specs.declared.Part.{Part}
 use Rattle.ipv4.specs.declared.Four.{Four}
 use Rattle.ipv4.specs.V4.{as_part, zero_led, part_of, four_of, parts_of, v4_of, with_part}

@@ -1,5 +1,6 @@
 // IPv4 addresses: four decimal parts with dots between.
 #![tactic(auto)]
+
 ghost use Rattle.std.specs.Prelude.{◌≡◌, ◌^◌, ◌<◌};
 ghost use Rattle.ipv4.specs.V4.{zero_led, part_of, v4_of, with_part};
 

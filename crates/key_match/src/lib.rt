@@ -1,5 +1,6 @@
 // Which key a text is: compared with the one that it may be.
 #![tactic(auto)]
+
 ghost use Rattle.std.specs.Prelude.{◌≡◌, [], ◌≤◌, get_or};
 ghost use Rattle.byte.specs.Same.{same};
 ghost use Rattle.name_table.specs.Names.{fixed};

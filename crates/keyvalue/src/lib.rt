@@ -1,5 +1,6 @@
 // The key-value reading: one parameter at a place of a text, told without writing, and its value decoded into lent memory.
 #![tactic(auto)]
+
 ghost use Rattle.std.specs.Prelude.{◌≡◌, ◌+◌, ◌-◌, ◌≤◌, length};
 ghost use Rattle.byte.specs.Put.{written, after};
 ghost use Rattle.keyvalue.specs.Scan.{quoted_len, simple_len};

@@ -1,5 +1,6 @@
 // The setters in place, called with a record of one's own: it is lent to the setter and handed back. A caller of these needs no walk.
 #![tactic(auto)]
+
 ghost use Rattle.std.specs.Prelude.{◌≡◌};
 ghost use Rattle.setters.specs.Setter.{number, set};
 

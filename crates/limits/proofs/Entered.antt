@@ -13,7 +13,7 @@ use Rattle.byte.specs.Put.{written}
 use Rattle.byte.proofs.Writing.{written-room, part-put}
 use Rattle.outcome.specs.Outcome.{reading}
 use Rattle.entry.specs.Entry.{entry, entry_left}
-use Rattle.telling.proofs.Told as Told
+use Rattle.telling.proofs.Equal as Equal
 use Rattle.demands.specs.Blind.{Readable, Alike}
 use Rattle.demands.proofs.Blind as Demands
 use Rattle.demands.proofs.Reports.{same-report}
@@ -107,6 +107,6 @@ module _ (s d p t e q : List ℕ) where
             λ g h.
             let x = told s d p g in
             let y = told t e q h in
-            let k = Told.telling (shows s d) (shows t e) (read-ranged s d (accepted-readable s d g.accepted)) (read-ranged t e (accepted-readable t e h.accepted)) in
+            let k = Equal.telling (shows s d) (shows t e) (read-ranged s d (accepted-readable s d g.accepted)) (read-ranged t e (accepted-readable t e h.accepted)) in
             ((λ z. k.0 (sym x ∙ z ∙ y)), (λ z. x ∙ k.1 z ∙ sym y));
       }

@@ -19,7 +19,7 @@ use Rattle.telling.specs.Bound.{shown_bytes, Sized}
 use Rattle.telling.proofs.Bound.{report-bound}
 use Rattle.demands.specs.Blind.{Readable, tells}
 use Rattle.demands.specs.Giving.{joined, Gives, too_long, no_room, not-utf8, first-fails, end-refuses, accepts}
-use Rattle.demands.proofs.Kept.{kept-fits}
+use Rattle.demands.proofs.Whole.{kept-fits}
 use Rattle.demands.proofs.Answering.{gives}
 use Rattle.demands.proofs.Shows.{read-tells, read-in, read-sound}
 use Rattle.limits.specs.Limits.{kept_bytes, report_most, given, shows, reports, Fits}

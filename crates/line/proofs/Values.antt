@@ -1,7 +1,7 @@
 -- The bytes of a value of each kind, and how many they are at most.
 -- Assumes nothing.
-use Prim.Native.Nat.{ℕ, zero, suc, ◌+◌, ◌*◌, ◌/◌, ◌%◌, ◌^◌, ◌<◌, ◌≤◌}
-use mathlib.Core.Path.{◌≡◌, refl, sym, ap, ◌∙◌}
+use Prim.Native.Nat.{ℕ, zero, suc, ◌+◌, ◌/◌, ◌%◌, ◌^◌, ◌<◌, ◌≤◌}
+use mathlib.Core.Path.{◌≡◌, refl, ap, ◌∙◌}
 use mathlib.Core.Bool.{Bool, true, false}
 use mathlib.Core.List.{List, [], ◌∷◌, ◌++◌, append-nil}
 use native.Mathlib.Omega.{arith}
@@ -18,8 +18,7 @@ use Rattle.decimal.proofs.Fixed.{hex-length}
 use Rattle.address.specs.declared.Kind.{Kind}
 use Rattle.draw.specs.Parts.{joined}
 use Rattle.escape.specs.Escape.{text_value}
-use Rattle.draw.proofs.Parts.{joined-none, joined-cons, joined-one, joined-append}
-use Rattle.draw.proofs.Escape.{text-size}
+use Rattle.draw.proofs.Parts.{joined-cons, joined-one, joined-append}
 use Rattle.line.specs.Line.{secret_value, word_value, host_value, number_value, four_value, quad_value, kind_value}
 
 pub secret-joined : joined secret_value ≡ bytes "_"

@@ -1,5 +1,6 @@
 // What a line of the report reads as; and the parts that stand before a value, written: the key with its sign, the kind of a host.
 #![tactic(auto)]
+
 ghost use Rattle.std.specs.Prelude.{◌≡◌, [], ◌∷◌};
 ghost use Rattle.byte.specs.Ascii.{bytes};
 ghost use Rattle.byte.specs.Byte.{pick};

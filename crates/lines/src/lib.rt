@@ -1,5 +1,6 @@
 // The report's lines over plain values: each is counted, or written into lent memory, by the same function.
 #![tactic(auto)]
+
 ghost use Rattle.std.specs.Prelude.{◌≡◌};
 ghost use Rattle.escape.specs.Escape.{text_value};
 ghost use Rattle.draw.specs.Pen.{sheet, drawn};

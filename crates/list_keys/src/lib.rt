@@ -1,6 +1,7 @@
 // One setting of a key that changes a list, applied to the rows that stand for a record.
 // After a fault nothing is promised of the rows: the text is refused, and nobody reads them.
 #![tactic(auto)]
+
 ghost use Rattle.std.specs.Prelude.{ℕ, ◌+◌, ◌≤◌, ◌≡◌, List, length};
 ghost use Rattle.apply.specs.Apply.{applied};
 ghost use Rattle.rows.specs.Rows.{config_of};

@@ -1,5 +1,6 @@
 // The setters that append an address or a port, as crate setters has those of numbers.
 #![tactic(auto)]
+
 ghost use Rattle.std.specs.Prelude.{◌≡◌};
 ghost use Rattle.setters.specs.Setter.{address, number, set};
 

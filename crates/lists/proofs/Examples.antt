@@ -6,17 +6,16 @@ use Prim.Native.Nat.{ℕ}
 use Prim.Native.String.{String}
 use lib.ListN.{replicate, take}
 use Rattle.byte.specs.Ascii.{bytes}
-use Rattle.byte.specs.Byte.{between, part_of}
+use Rattle.byte.specs.Byte.{between}
 use Rattle.byte.specs.Digit.{digit_of}
 use Rattle.byte.specs.Same.{same}
-use Rattle.split.specs.Split.{first_at, split}
+use Rattle.split.specs.Split.{split}
 use Rattle.number.specs.Digits.{all_digits, value_in, value_from}
 use Rattle.number.specs.Number.{digits_in, unsigned_of}
 use Rattle.address.specs.declared.Kind.{Kind}
 use Rattle.address.specs.declared.Address.{Address}
 use Rattle.address.specs.Address as address
 use Rattle.ipv4.specs.V4 as ipv4
-use Rattle.lists.specs.declared.Place.{Place}
 use Rattle.lists.specs.declared.HostKind.{HostKind}
 use Rattle.lists.specs.declared.Host.{Host}
 use Rattle.lists.specs.declared.Hosts.{Hosts}

@@ -1,7 +1,7 @@
 -- What a piece is, told from what the readers say of it.
 -- Assumes nothing.
 use Prim.Native.Nat.{ℕ}
-use mathlib.Core.Path.{◌≡◌, refl, sym, ap, ◌∙◌}
+use mathlib.Core.Path.{◌≡◌, refl, ap, ◌∙◌}
 use mathlib.Core.Bool.{Bool, true, false}
 use mathlib.Core.List.{List}
 use lib.ListN.{length}
@@ -12,7 +12,6 @@ use Rattle.number.specs.declared.Number.{Number}
 use Rattle.integer.specs.declared.Number16.{Number16}
 use Rattle.number.specs.Number.{unsigned_of}
 use Rattle.integer.specs.Integer.{as16}
-use Rattle.address.specs.declared.Address.{Address}
 use Rattle.address.specs.declared.AddressRead.{AddressRead}
 use Rattle.address.specs.Address.{address_of}
 use Rattle.lists.specs.declared.Fault.{Fault}

@@ -7,9 +7,8 @@ use mathlib.Core.List.{List, [], ◌∷◌}
 use native.Mathlib.Omega.{arith}
 use lib.ListN.{length, take, drop, length-take, length-drop}
 use borrow.Author.Tests.{lt-ltb, le-ltb}
-use Rattle.byte.specs.Byte.{pick}
 use Rattle.split.specs.Split.{first_at, split}
-use Rattle.split.proofs.Split.{split-here, split-more, split-last, behind, first-within}
+use Rattle.split.proofs.Split.{split-here, split-more, split-last, first-within}
 use Rattle.lists.specs.declared.Fault.{Fault}
 use Rattle.lists.specs.Fault.{is_fine}
 use Rattle.lists.specs.Append.{Piece, Slots, More, more, pushed, kept, append, append_from, pieces_from, listed}

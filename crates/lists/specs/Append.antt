@@ -1,6 +1,6 @@
 -- How a value's pieces are appended to a list of sixteen places, for elements of any type.
 -- Assumes nothing.
-use Rattle.std.specs.Prelude.{ℕ, ◌+◌, Bool, true, false, List, [], ◌∷◌, ltb, length, set}
+use Rattle.std.specs.Prelude.{ℕ, ◌+◌, List, [], ◌∷◌, ltb, length, set}
 use Rattle.split.specs.Split.{split}
 use Rattle.byte.specs.Byte.{pick}
 use Rattle.lists.specs.declared.Fault.{Fault}

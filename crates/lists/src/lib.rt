@@ -1,5 +1,6 @@
 // The three lists of a record, hosts, addresses and ports: sixteen places each, of which a count says how many are used.
 #![tactic(auto)]
+
 ghost use Rattle.std.specs.Prelude.{◌≡◌};
 ghost use Rattle.lists.specs.Fault.{is_fine, number_of, key_of};
 ghost use Rattle.lists.specs.Lists.{port_kept, address_kept};

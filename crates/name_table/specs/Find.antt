@@ -1,6 +1,6 @@
 -- Which of some names a text is: its number, counted from 1, or 0 where it is none of them.
 -- Assumes nothing.
-use Rattle.std.specs.Prelude.{ℕ, ◌+◌, List, [], ◌∷◌, Bool, true, false, length}
+use Rattle.std.specs.Prelude.{ℕ, ◌+◌, List, [], ◌∷◌, length}
 use Rattle.byte.specs.Byte.{pick}
 use Rattle.byte.specs.Same.{same, stands_at}
 use Rattle.name_table.specs.Names.{key_names, words_of, prefixes}

@@ -1,5 +1,6 @@
 // Every fixed byte string in two tables, compared with a lent text and written from it.
 #![tactic(auto)]
+
 ghost use Rattle.std.specs.Prelude.{◌≡◌, [], length, get_or};
 ghost use Rattle.byte.specs.Same.{same};
 ghost use Rattle.byte.specs.Put.{written, after};

@@ -1,5 +1,6 @@
 // Keys, words and prefixes: looked up, and written. Words and prefixes stand here each by itself, too, compared with a lent text.
 #![tactic(auto)]
+
 ghost use Rattle.std.specs.Prelude.{◌≡◌, [], ◌+◌, ◌-◌, ◌≤◌, eqb, leb, length, get_or};
 ghost use Rattle.byte.specs.Byte.{pick};
 ghost use Rattle.byte.specs.Same.{stands_at};

@@ -1,5 +1,6 @@
 // Numbers in digits, within a range: the answer tells a fault of form from one of range.
 #![tactic(auto)]
+
 ghost use Rattle.std.specs.Prelude.{◌≡◌, drop};
 ghost use Rattle.byte.specs.Byte.{pick};
 ghost use Rattle.number.specs.declared.Number.{Number};

@@ -1,11 +1,12 @@
 // Reads one text from standard input, and writes the report of its settings or `refused` and the number.
 #![tactic(auto)]
-ghost use Rattle.std.specs.Prelude.{◌≡◌, length};
-ghost use Rattle.io.specs.Counts.{IsPrefixLen};
+
+ghost use Rattle.std.specs.Prelude.{◌≡◌, ◌≤◌, length, take, IfOk};
 ghost use Rattle.byte.specs.Put.{put};
 ghost use Rattle.nyimbrak.specs.Output.{output_of};
 
-use libc::{STDIN_FILENO, STDOUT_FILENO};
+use std::io;
+use std::io::{Input, Print, Read};
 
 // What a refusal's number is added to where the report's length might stand.
 const REFUSED: u32 = 1000000;
@@ -24,32 +25,31 @@ fn answer_into(text: &[u8], out: &mut [u8; 13795]) -> usize
 }
 
 // Writes bytes that are the whole output of a text.
-fn write_output(text: &[u8], output: &[u8])
+fn write_output<R: Print>(rt: &R, text: &[u8], output: &[u8]) -> io::Result<()>
     requires { output.now ≡ output_of text.now }
 {
-    io::write_all(STDOUT_FILENO, output);
+    rt.write_all(output)
 }
 
-fn write_answer(text: &[u8]) {
+fn write_answer<R: Print>(rt: &R, text: &[u8]) -> io::Result<()> {
     let mut out = [0u8; 13795];
     let len = answer_into(text, &mut out);
-    write_output(text, byte::part(&out, 0, len));
+    write_output(rt, text, byte::part(&out, 0, len))
 }
 
 // One byte over the limit, so that a text that is too long is seen.
-fn read_text(text: &mut [u8; 4097]) -> usize
-    ensures { IsPrefixLen result text.new }
+fn read_text<R: Read>(from: &mut R, text: &mut [u8; 4097]) -> io::Result<usize>
+    ensures within { IfOk result (λ n. n ≤ length text.new) }
+    ensures prefix { IfOk result (λ n. n ≡ length (take n text.new)) }
 {
-    io::read_full(STDIN_FILENO, text)
+    filling::read_full(from, text)
 }
 
 // A read that fails is no end of the text: then nothing is answered.
-fn main() {
+fn main(rt: HostRuntime) -> io::Result<()> {
     let mut text = [0u8; 4097];
-    let n = read_text(&mut text);
-    if os::errno() != 0 {
-        os::fail(b"standard input");
-        return;
+    match read_text(&mut rt.reader(), &mut text) {
+        Ok(n) => write_answer(&rt, &text[..n]),
+        Err(e) => eprintln!(rt; "standard input: {e}"),
     }
-    write_answer(&text[..n]);
 }

@@ -1,21 +1,18 @@
 -- How the reader begins and ends: the tests before the first setting, the first state, and the answer once it is known what the text comes to.
 -- Assumes nothing.
-use Prim.Native.Nat.{ℕ, zero, suc, ◌+◌, ◌-◌, ◌*◌, ◌≤◌, ◌<◌}
-use mathlib.Core.Path.{◌≡◌, refl, sym, ap, subst, ◌∙◌}
+use Prim.Native.Nat.{ℕ, ◌-◌, ◌≤◌, ◌<◌}
+use mathlib.Core.Path.{◌≡◌, refl, sym, ap, ◌∙◌}
 use mathlib.Core.Bool.{Bool, true, false}
-use mathlib.Core.List.{List, [], ◌∷◌, ◌++◌}
+use mathlib.Core.List.{List, [], ◌++◌}
 use native.Mathlib.Omega.{arith}
 use native.Mathlib.Nat.{sub-zero}
-use lib.Dec.{eqb, ltb}
+use lib.Dec.{ltb}
 use lib.ListN.{length, drop, replicate}
 use borrow.Author.Tests.{lt-ltb, le-ltb, ltb-true, ltb-false, eq-eqb, ne_eqb}
-use Rattle.byte.specs.Byte.{pick}
 use Rattle.byte.specs.Put.{put, written}
 use Rattle.utf8.specs.Utf8.{well_formed}
 use Rattle.names.specs.Find.{prefix_len}
 use Rattle.names.proofs.Prefix.{prefix-long}
-use Rattle.setting.specs.Setting.{Reading}
-use Rattle.keyvalue.specs.KeyValue.{key_value}
 use Rattle.url_parser.specs.declared.Stage.{Stage}
 use Rattle.url_parser.specs.declared.Url.{Url}
 use Rattle.url_parser.specs.Step.{url}
@@ -23,9 +20,8 @@ use Rattle.url_parser.specs.Uri.{uri}
 use Rattle.url_parser.proofs.Reading.{reading-start, left-start}
 use Rattle.config.specs.declared.Config.{Config}
 use Rattle.config.specs.Config.{defaults}
-use Rattle.outcome.specs.declared.Answer.{Answer}
 use Rattle.outcome.specs.Outcome.{reading, refusal, acceptance, Outcome, refused, accepted, ended, outcome, outcome_of, answer, filled, left}
-use Rattle.outcome.specs.Steps.{State, first_state}
+use Rattle.outcome.specs.Steps.{first_state}
 use Rattle.outcome.proofs.Packing.{Packed, packed_none, zeros-behind, zeros-all}
 use Rattle.taking.proofs.Next.{from, measure, slack}
 use Rattle.outcome.proofs.Going.{Going}

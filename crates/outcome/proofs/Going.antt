@@ -1,26 +1,23 @@
 -- The reader's loop: what holds while settings are applied, what a turn makes of it, and what holds where a turn stops.
 -- Assumes nothing.
-use Prim.Native.Nat.{ℕ, ◌+◌, ◌-◌, ◌≤◌, ◌<◌}
-use mathlib.Core.Path.{◌≡◌, refl, sym, ap, subst, ◌∙◌}
+use Prim.Native.Nat.{ℕ, ◌+◌, ◌≤◌, ◌<◌}
+use mathlib.Core.Path.{◌≡◌, refl, sym, ap, ◌∙◌}
 use mathlib.Core.Bool.{Bool, true, false}
-use mathlib.Core.List.{List, [], ◌∷◌, ◌++◌, append-nil}
+use mathlib.Core.List.{List, [], ◌++◌, append-nil}
 use native.Mathlib.Omega.{arith}
-use lib.Dec.{eqb}
 use lib.ListN.{length, length-append}
 use Rattle.byte.specs.Byte.{pick, part_of}
 use Rattle.byte.specs.Put.{put, written, after}
 use Rattle.setting.specs.Setting.{Setting, kind_of, value_of, Reading, ends, follows}
-use Rattle.url_parser.specs.declared.Url.{Url}
 use Rattle.url_parser.specs.declared.Found.{Found}
 use Rattle.url_parser.specs.declared.UrlStep.{UrlStep}
 use Rattle.url_parser.specs.declared.UrlStep.TheVariants.{Given, Ended}
-use Rattle.lists.specs.declared.Fault.{Fault}
 use Rattle.lists.specs.Fault.{is_fine, number_of, key_of}
 use Rattle.config.specs.declared.Config.{Config}
 use Rattle.apply.specs.declared.Applied.{Applied}
 use Rattle.apply.specs.Apply.{applied}
 use Rattle.taking.specs.declared.Taken.{Taken}
-use Rattle.outcome.specs.Outcome.{kept, Outcome, refused, ended, outcome, outcome_of}
+use Rattle.outcome.specs.Outcome.{kept, refused, ended, outcome, outcome_of}
 use Rattle.taking.specs.Taking.{keeps, next_at, value_at, taken_by, left_by, taken_of, taken_leaves}
 use Rattle.outcome.specs.Steps.{State}
 use Rattle.outcome.proofs.Packing.{Packed, value_written, value_after, value-stands, value-left, value-packed}

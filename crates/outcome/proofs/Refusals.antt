@@ -1,23 +1,21 @@
 -- A refused text: its record is the default one, so that its number, key and count are all that it says.
 -- Assumes nothing.
-use Prim.Native.Nat.{ℕ, ◌+◌, ◌≤◌, ◌<◌}
-use mathlib.Core.Path.{◌≡◌, refl, sym, ap, ◌∙◌}
+use Prim.Native.Nat.{ℕ, ◌+◌}
+use mathlib.Core.Path.{◌≡◌, refl, ap, ◌∙◌}
 use mathlib.Core.Bool.{Bool, true, false}
 use mathlib.Core.List.{List, [], ◌∷◌, ◌++◌}
 use lib.Dec.{eqb, ltb}
 use lib.ListN.{length}
-use borrow.Author.Tests.{eqb-true}
 use Rattle.byte.specs.Byte.{pick}
 use Rattle.utf8.specs.Utf8.{well_formed}
 use Rattle.setting.specs.Setting.{Setting, kind_of, value_of}
-use Rattle.lists.specs.Fault.{is_fine, number_of, key_of}
+use Rattle.lists.specs.Fault.{is_fine}
 use Rattle.config.specs.declared.Config.{Config}
-use Rattle.config.specs.Config.{defaults}
 use Rattle.apply.specs.Apply.{applied}
 use Rattle.outcome.specs.declared.Answer.{Answer}
 use Rattle.ending.specs.declared.Ending.{Ending}
 use Rattle.outcome.specs.Outcome.{ending_of}
-use Rattle.outcome.specs.Outcome.{kept, refusal, Outcome, refused, accepted, ended, outcome, outcome_of, answer}
+use Rattle.outcome.specs.Outcome.{kept, refusal, Outcome, refused, accepted, outcome, outcome_of, answer}
 
 -- a refusal says no more than its number, its key and its count
 abbrev Plain : Answer → Type 0

@@ -1,5 +1,6 @@
 // What a text comes to, by definitions and laws alone; crate reader has the code.
 #![tactic(auto)]
+
 use config::Config;
 
 // What a text gives back. With a number other than 0 the record is the default one.

@@ -1,6 +1,7 @@
 // One setting applied to the rows that stand for a record, by the number of its key. The cells of each field stand in crate rows.
 // After a fault nothing is promised of the rows: the text is refused, and nobody reads them.
 #![tactic(auto)]
+
 ghost use Rattle.std.specs.Prelude.{◌≡◌, length};
 ghost use Rattle.byte.specs.Byte.{part_of};
 ghost use Rattle.apply.specs.Apply.{applied};

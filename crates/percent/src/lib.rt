@@ -1,5 +1,6 @@
 // Percent decoding: a piece of a text, and how long the text is once decoded.
 #![tactic(auto)]
+
 ghost use Rattle.std.specs.Prelude.{◌≡◌, length, get_or};
 ghost use Rattle.percent.specs.Percent.{piece_at, decoded};
 

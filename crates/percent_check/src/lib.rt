@@ -1,5 +1,6 @@
 // Texts judged once decoded, by scans that write nothing.
 #![tactic(auto)]
+
 ghost use Rattle.std.specs.Prelude.{◌≡◌, ◌+◌, eqb, drop};
 ghost use Rattle.split.specs.Split.{first_at};
 ghost use Rattle.percent_check.specs.Plain.{checked, ends_plain, plain_until, checked_on, checked_until};

@@ -1,5 +1,6 @@
 // Percent decoding, written into lent memory.
 #![tactic(auto)]
+
 ghost use Rattle.std.specs.Prelude.{◌≡◌, ◌+◌, leb, length};
 ghost use Rattle.byte.specs.Put.{written, after};
 ghost use Rattle.percent.specs.Percent.{decoded};

@@ -1,5 +1,6 @@
 // The text of a key, and where it lies in the decode buffer, as one number.
 #![tactic(auto)]
+
 ghost use Rattle.std.specs.Prelude.{◌≡◌, ◌≤◌};
 ghost use Rattle.places.specs.Places.{text_of, place_of};
 

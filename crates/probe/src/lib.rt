@@ -1,6 +1,7 @@
 // Thin functions over the leaves, exported for the runs beside Rust and for nothing else: each promises what its leaf promises,
 // an answer that C has no form for as a plain record of numbers.
 #![tactic(auto)]
+
 ghost use Rattle.std.specs.Prelude.{◌≡◌, ◌-◌, ◌^◌, [], ◌∷◌, true, false, length, drop, get_or, replicate};
 ghost use Rattle.byte.specs.Same.{stands_at};
 ghost use Rattle.byte.specs.Put.{written, after};

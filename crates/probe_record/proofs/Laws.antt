@@ -3,10 +3,10 @@
 use Prim.Native.Nat.{ℕ, zero, suc, ◌+◌, ◌-◌, ◌≤◌, ◌<◌}
 use mathlib.Core.Path.{◌≡◌, refl, sym, ap, ◌∙◌}
 use mathlib.Core.Bool.{Bool, true, false}
-use mathlib.Core.List.{List, [], ◌∷◌}
+use mathlib.Core.List.{List}
 use native.Mathlib.Omega.{arith}
 use lib.Dec.{eqb, ltb}
-use lib.ListN.{get_or, replicate}
+use lib.ListN.{get_or}
 use borrow.Author.Tests.{eq-eqb, ne_eqb, lt-ltb, le-ltb}
 use Rattle.byte.specs.Byte.{pick, part_of}
 use Rattle.names.specs.Find.{key_number}
@@ -14,16 +14,13 @@ use Rattle.lists.specs.declared.Fault.{Fault}
 use Rattle.lists.specs.Fault.{is_fine, number_of, key_of}
 use Rattle.lists.proofs.Faults.{fault-numbered}
 use Rattle.config.specs.declared.Config.{Config}
-use Rattle.config.specs.Config.{defaults}
-use Rattle.apply.specs.Apply.{applied, ssl_mode_of, ssl_negotiation_of, target_session_attrs_of, channel_binding_of, load_balance_hosts_of}
-use Rattle.rows.specs.Rows.{hosts_of, addresses_of, config_of}
+use Rattle.apply.specs.Apply.{applied}
 use Rattle.list_keys.specs.Sets.{Sets}
 use Rattle.report.specs.declared.Answer.{Answer}
 use Rattle.report.specs.Answer.{reported, reported_into}
 use Rattle.probe_record.specs.declared.Given.{Given}
 use Rattle.probe_record.specs.declared.Reached.{Reached}
 use Rattle.probe_record.specs.declared.Settled.{Settled}
-use Rattle.probe_record.specs.declared.Told.{Told}
 use Rattle.probe_record.specs.Settled.{value_at, given_at, refusal, booked, step_of, first, settled, reached_of, told_len, told}
 
 module _ (l : List ℕ) (at : ℕ) where

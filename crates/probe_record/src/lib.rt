@@ -1,5 +1,6 @@
 // Settings applied one after the other, and the report of the record that they make: exported for the runs beside Rust and for nothing else.
 #![tactic(auto)]
+
 ghost use Rattle.std.specs.Prelude.{◌≡◌, ◌≤◌, length};
 ghost use Rattle.report.specs.Answer.{reported_into};
 ghost use Rattle.lists.specs.Fault.{number_of, key_of};

@@ -3,12 +3,14 @@
 // place; a word's number, a switch or an address's kind; two numbers of eight bytes, the high byte first.
 // The answer to a sequence is a byte for each call's number, the length of the report in two bytes, and the report.
 #![tactic(auto)]
+
 use address::{Address, Kind};
 use config::{
     ChannelBinding, Config, LoadBalanceHosts, SslMode, SslNegotiation, TargetSessionAttrs,
 };
-use libc::{STDIN_FILENO, STDOUT_FILENO};
 use setters::Answer;
+use std::io;
+use std::io::{Input, Print, Read};
 
 #[derive(Clone, Copy)]
 struct Call {
@@ -147,55 +149,53 @@ fn make(c: Config, k: Call) -> Answer {
     call_in_place(c, k)
 }
 
-fn put_report(c: Config) {
+fn put_report<P: Print>(rt: &P, c: Config) -> io::Result<()> {
     let mut out = [0u8; 13795];
     match report::report(c, b"", &mut out) {
         report::Answer::Length(n) => {
             let len = [(n / 256 % 256) as u8, (n % 256) as u8];
-            io::write_all(STDOUT_FILENO, &len);
-            io::write_all(STDOUT_FILENO, byte::part(&out, 0, n));
+            rt.write_all(&len)?;
+            rt.write_all(byte::part(&out, 0, n))
         }
-        report::Answer::Short => {}
-        report::Answer::Unsound => {}
+        report::Answer::Short => Ok(()),
+        report::Answer::Unsound => Ok(()),
     }
 }
 
 // One call: its number is written, and its record handed on.
-fn step(c: Config) -> Config {
+fn step<P: Print, R: Read>(rt: &P, from: &mut R, c: Config) -> io::Result<Config> {
     let mut b = [0u8; 18];
-    io::read_full(STDIN_FILENO, &mut b);
+    filling::read_full(from, &mut b)?;
     let a = make(c, call_of(b));
     let number = [(a.number % 256) as u8];
-    io::write_all(STDOUT_FILENO, &number);
-    a.config
+    rt.write_all(&number)?;
+    Ok(a.config)
 }
 
-fn answer_all(n: u8) {
+fn answer_all<P: Print, R: Read>(rt: &P, from: &mut R, n: u8) -> io::Result<()> {
     let mut c = Config::new();
-    let mut left = n;
-    while 0 < left {
-        c = step(c);
-        left -= 1;
+    for _ in 0..n {
+        c = step(rt, from, c)?;
     }
-    put_report(c);
+    put_report(rt, c)
 }
 
 // Whether there was one more sequence.
-fn turn() -> bool {
+fn turn<P: Print, R: Read>(rt: &P, from: &mut R) -> io::Result<bool> {
     let mut n = [0u8; 1];
-    if io::read_full(STDIN_FILENO, &mut n) != 1 {
-        return false;
+    if filling::read_full(from, &mut n)? != 1 {
+        return Ok(false);
     }
-    answer_all(n[0]);
-    true
+    answer_all(rt, from, n[0])?;
+    Ok(true)
 }
 
-fn main() {
-    let mut turns = 1000000u64;
-    while 0 < turns {
-        if !turn() {
+fn main(rt: HostRuntime) -> io::Result<()> {
+    let mut from = rt.reader();
+    for _ in 0..1000000 {
+        if !turn(&rt, &mut from)? {
             break;
         }
-        turns -= 1;
     }
+    Ok(())
 }

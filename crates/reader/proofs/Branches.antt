@@ -14,7 +14,6 @@ use Rattle.url_parser.specs.declared.Url.{Url}
 use Rattle.lists.specs.declared.Fault.{Fault}
 use Rattle.lists.specs.Fault.{is_fine, number_of, key_of}
 use Rattle.config.specs.declared.Config.{Config}
-use Rattle.apply.specs.declared.Applied.{Applied}
 use Rattle.apply.specs.Apply.{applied}
 use Rattle.list_keys.specs.Sets.{Sets}
 use Rattle.taking.specs.declared.Taken.{Taken}
@@ -25,7 +24,6 @@ use Rattle.outcome.specs.Outcome.{outcome_of, filled}
 use Rattle.ending.specs.Ending.{ending}
 use Rattle.outcome.specs.Outcome.{ending_of}
 use Rattle.outcome.specs.Steps.{State}
-use Rattle.outcome.proofs.Packing.{Packed}
 use Rattle.outcome.proofs.Going.{Going, go_on, go-off, at-end}
 use Rattle.outcome.proofs.Answers.{refused-text, end-fine, end-broken}
 

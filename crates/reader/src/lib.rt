@@ -1,5 +1,6 @@
 // A text read into a record: the limits, UTF-8, then its settings applied in order.
 #![tactic(auto)]
+
 ghost use Rattle.std.specs.Prelude.{◌≡◌, ◌≤◌, length};
 ghost use Rattle.config.specs.Config.{defaults};
 ghost use Rattle.rows.specs.Rows.{config_of};

@@ -1,5 +1,6 @@
 // The record made of the rows of numbers that hold its settings while a text is read.
 #![tactic(auto)]
+
 ghost use Rattle.std.specs.Prelude.{◌≡◌, ◌<◌};
 ghost use Rattle.rows.specs.Rows.{text_at, time_at, config_of};
 

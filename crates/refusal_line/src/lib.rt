@@ -1,5 +1,6 @@
 // The line that the program writes for a text that is refused.
 #![tactic(auto)]
+
 ghost use Rattle.std.specs.Prelude.{◌≡◌, length};
 ghost use Rattle.byte.specs.Put.{put};
 ghost use Rattle.refusal_line.specs.Refusal.{refusal_line};

@@ -1,8 +1,10 @@
 // Replays vectors from standard input, made from the answers of the Rust that is ported (differential/beside/vectors.rs says what a
 // vector is), and says how many are as they should be and how many differ.
 #![tactic(auto)]
-use libc::STDOUT_FILENO;
+
 use outcome::Answer;
+use std::io;
+use std::io::{Input, Read};
 
 // What the decode buffer has before a text is read.
 const BEFORE: [u8; 4097] = [170; 4097];
@@ -80,27 +82,28 @@ fn agrees(text: &[u8], decode: &mut [u8], dst: &mut [u8], want: &[u8], h: Head) 
 }
 
 // 0: the vectors are at their end; 1: this one agrees; 2: it differs, or the file is broken.
-fn judge(
+fn judge<R: Read>(
+    from: &mut R,
     text: &mut [u8; 4097],
     decode: &mut [u8; 4097],
     dst: &mut [u8; 16384],
     want: &mut [u8; 20480],
-) -> u8 {
+) -> io::Result<u8> {
     let mut b = [0u8; 10];
-    if io::read_full(0, &mut b) != 10 {
-        return 0;
+    if filling::read_full(from, &mut b)? != 10 {
+        return Ok(0);
     }
     let h = head_of(b);
-    if !vector_parts::fill(text, h.text) {
-        return 2;
+    if !vector_parts::fill(from, text, h.text)? {
+        return Ok(2);
     }
-    if !vector_parts::fill(want, h.end) {
-        return 2;
+    if !vector_parts::fill(from, want, h.end)? {
+        return Ok(2);
     }
     if agrees(byte::part(text, 0, h.text), decode, dst, want, h) {
-        1
+        Ok(1)
     } else {
-        2
+        Ok(2)
     }
 }
 
@@ -115,25 +118,21 @@ fn tally(n: u64, got: u8, v: u8) -> u64 {
     n + 1
 }
 
-fn main() {
-    let mut turns: u64 = 1000000;
+fn main(rt: HostRuntime) -> io::Result<()> {
+    let mut from = rt.reader();
     let mut good: u64 = 0;
     let mut bad: u64 = 0;
     let mut text = [0u8; 4097];
     let mut decode = [0u8; 4097];
     let mut dst = [0u8; 16384];
     let mut want = [0u8; 20480];
-    while 0 < turns {
-        let v = judge(&mut text, &mut decode, &mut dst, &mut want);
+    for _ in 0..1000000 {
+        let v = judge(&mut from, &mut text, &mut decode, &mut dst, &mut want)?;
         if v == 0 {
             break;
         }
         good = tally(good, v, 1);
         bad = tally(bad, v, 2);
-        turns -= 1;
     }
-    io::print_decimal(STDOUT_FILENO, good);
-    io::write_all(STDOUT_FILENO, b" as they should be, ");
-    io::print_decimal(STDOUT_FILENO, bad);
-    io::write_all(STDOUT_FILENO, b" differ\n");
+    println!(rt; "{good} as they should be, {bad} differ")
 }

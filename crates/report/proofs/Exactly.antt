@@ -1,7 +1,7 @@
 -- When each number is handed back, and what stands in the report buffer then.
 -- Assumes nothing.
-use Prim.Native.Nat.{ℕ, ◌+◌, ◌≤◌, ◌<◌}
-use mathlib.Core.Path.{◌≡◌, refl, sym, ap, ◌∙◌}
+use Prim.Native.Nat.{ℕ, ◌≤◌, ◌<◌}
+use mathlib.Core.Path.{◌≡◌, refl, ap, ◌∙◌}
 use mathlib.Core.Bool.{Bool, true, false}
 use mathlib.Core.List.{List}
 use mathlib.Core.Logic.{◌↔◌}
@@ -9,9 +9,9 @@ use native.Mathlib.Omega.{arith}
 use native.Mathlib.Nat.{zero-add}
 use lib.Dec.{leb}
 use lib.ListN.{length, take, drop}
-use borrow.Author.Tests.{le-leb, lt-leb, leb-true, leb-false}
+use borrow.Author.Tests.{le-leb, leb-true, leb-false}
 use Rattle.byte.specs.Byte.{pick}
-use Rattle.byte.specs.Put.{put, written}
+use Rattle.byte.specs.Put.{put}
 use Rattle.byte.proofs.Writing.{written-room, written-short, part-put, behind-put}
 use Rattle.config.specs.declared.Config.{Config}
 use Rattle.config.specs.Values.{shown}

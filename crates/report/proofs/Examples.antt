@@ -1,13 +1,13 @@
 -- Document 01's worked example, and lines of every kind, by computation.
 -- Assumes nothing.
-use Prim.Native.Nat.{ℕ, zero, suc, ◌^◌, ◌-◌}
+use Prim.Native.Nat.{ℕ, ◌^◌, ◌-◌}
 use Prim.Native.String.{String}
 use mathlib.Core.Path.{◌≡◌, refl}
-use mathlib.Core.Bool.{Bool, true, false}
+use mathlib.Core.Bool.{true, false}
 use mathlib.Core.List.{List, [], ◌∷◌, ◌++◌}
-use mathlib.Core.Option.{Option, some, none}
+use mathlib.Core.Option.{some, none}
 use Rattle.byte.specs.Ascii.{bytes}
-use Rattle.byte.specs.Byte.{pick, between}
+use Rattle.byte.specs.Byte.{between}
 use Rattle.names.specs.Names.{key_name, word_name, words_of}
 use Rattle.decimal.specs.Decimal.{digit_byte, fixed_digits, decimal_by, decimal}
 use Rattle.address.specs.declared.Kind.{Kind}
@@ -19,7 +19,7 @@ use Rattle.config.specs.declared.SslNegotiation.{SslNegotiation}
 use Rattle.config.specs.declared.TargetSessionAttrs.{TargetSessionAttrs}
 use Rattle.config.specs.declared.ChannelBinding.{ChannelBinding}
 use Rattle.config.specs.declared.LoadBalanceHosts.{LoadBalanceHosts}
-use Rattle.config.specs.Values.{HostValue, tcp, unix, Values}
+use Rattle.config.specs.Values.{tcp, unix, Values}
 use Rattle.report.specs.Report.{values, report}
 
 -- lines of text

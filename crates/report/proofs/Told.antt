@@ -1,15 +1,14 @@
 -- What the function answers and leaves, from what it measured and wrote.
 -- Assumes nothing.
-use Prim.Native.Nat.{ℕ, ◌+◌, ◌≤◌, ◌<◌}
+use Prim.Native.Nat.{ℕ, ◌≤◌, ◌<◌}
 use mathlib.Core.Path.{◌≡◌, refl, sym, ap, ◌∙◌}
 use mathlib.Core.Bool.{Bool, true, false}
 use mathlib.Core.List.{List}
 use native.Mathlib.Omega.{arith}
 use lib.Dec.{leb}
 use lib.ListN.{length}
-use borrow.Author.Tests.{le-leb, lt-leb, leb-true, leb-false}
-use Rattle.byte.specs.Byte.{pick}
-use Rattle.byte.specs.Put.{put, written}
+use borrow.Author.Tests.{le-leb, leb-true, leb-false}
+use Rattle.byte.specs.Put.{put}
 use Rattle.byte.proofs.Writing.{written-room, written-short}
 use Rattle.draw.specs.declared.Pen.{Pen}
 use Rattle.draw.specs.Parts.{joined}

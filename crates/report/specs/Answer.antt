@@ -1,6 +1,6 @@
 -- What the report function answers, and what it leaves in the report buffer.
 -- Assumes nothing.
-use Rattle.std.specs.Prelude.{ℕ, Bool, true, false, List, leb, length}
+use Rattle.std.specs.Prelude.{ℕ, List, leb, length}
 use Rattle.byte.specs.Byte.{pick}
 use Rattle.byte.specs.Put.{written}
 use Rattle.config.specs.declared.Config.{Config}

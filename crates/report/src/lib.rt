@@ -1,5 +1,6 @@
 // The report of a record: written only where it fits.
 #![tactic(auto)]
+
 ghost use Rattle.std.specs.Prelude.{◌≡◌, leb, length};
 ghost use Rattle.config.specs.Values.{shown};
 ghost use Rattle.report.specs.Report.{report as whole};

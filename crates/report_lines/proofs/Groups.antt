@@ -1,10 +1,10 @@
 -- The keys' lines in groups, as the code draws them, are the lines of what the record shows.
 -- Assumes nothing.
 use Prim.Native.Nat.{ℕ}
-use mathlib.Core.Path.{◌≡◌, refl, sym, ap, ◌∙◌}
+use mathlib.Core.Path.{◌≡◌, sym, ap, ◌∙◌}
 use mathlib.Core.List.{List, [], ◌∷◌, map}
 use native.Mathlib.Omega.{arith}
-use lib.ListN.{length, take, drop}
+use lib.ListN.{take, drop}
 use Rattle.byte.specs.Byte.{pick}
 use Rattle.escape.specs.Escape.{text_value}
 use Rattle.line.specs.Line.{secret_value, word_value, number_value, address_value, line, lines, lines_from}

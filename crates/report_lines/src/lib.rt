@@ -1,5 +1,6 @@
 // The lines of a record's report, key by key, counted or written.
 #![tactic(auto)]
+
 ghost use Rattle.std.specs.Prelude.{◌≡◌, take, drop};
 ghost use Rattle.draw.specs.Pen.{sheet, drawn};
 ghost use Rattle.line.specs.Line.{lines_from};

@@ -1,9 +1,8 @@
 -- What is left of the room, text by text and host by host.
 -- Assumes nothing.
 use Prim.Native.Nat.{ℕ, suc, ◌+◌, ◌*◌, ◌-◌, ◌/◌, ◌<◌, ◌≤◌}
-use mathlib.Core.Path.{◌≡◌, refl, sym, ap, ◌∙◌}
+use mathlib.Core.Path.{◌≡◌, refl, sym, ◌∙◌}
 use mathlib.Core.Bool.{Bool, true, false, ◌&&◌}
-use mathlib.Core.List.{List, [], ◌∷◌}
 use native.Mathlib.Omega.{arith}
 use native.Mathlib.Nat.{sub-zero}
 use native.Mathlib.Numerals.{add-one}
@@ -11,7 +10,6 @@ use lib.Dec.{ltb, leb}
 use lib.ListN.{length, get_or, take, drop, drop_of_length-le}
 use lib.Seq.{take-nil, drop-cons}
 use borrow.Author.Tests.{lt-ltb, le-ltb, ltb-true, ltb-false, leb-true}
-use Rattle.byte.specs.Byte.{pick}
 use Rattle.byte.proofs.Laws.{and_left, and_right}
 use Rattle.lists.specs.declared.Place.{Place}
 use Rattle.lists.specs.declared.HostKind.{HostKind}

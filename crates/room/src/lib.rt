@@ -1,5 +1,6 @@
 // Whether a report surely has room, told from a record's lengths and counts alone, so that it needn't be measured first.
 #![tactic(auto)]
+
 ghost use Rattle.std.specs.Prelude.{◌≡◌, ◌-◌, take};
 ghost use Rattle.room.specs.Room.{text_threes, kind_len, host_threes, surely_fits};
 

@@ -1,5 +1,6 @@
 // One entry of a list while it stands in rows of numbers: a host or an address written there, a port read.
 #![tactic(auto)]
+
 ghost use Rattle.std.specs.Prelude.{◌≡◌, ◌<◌, eqb, get_or, set, drop};
 ghost use Rattle.byte.specs.Byte.{pick};
 ghost use Rattle.lists.specs.Lists.{host_of, port_number};

@@ -1,6 +1,7 @@
 // The three lists while they stand in rows of numbers: each function appends the pieces of a value behind the used entries.
 // After a fault nothing is promised of the rows: the text is refused, and nobody reads them.
 #![tactic(auto)]
+
 ghost use Rattle.std.specs.Prelude.{◌≡◌, ◌+◌, ◌≤◌, length, get_or};
 ghost use Rattle.lists.specs.Lists.{host_after, hosts_after, addresses_after, ports_after};
 ghost use Rattle.row_lists.specs.Added.{hosts_in, addresses_in, ports_in, AddsHosts, AddsAddresses, AddsPorts};

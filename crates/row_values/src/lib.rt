@@ -1,5 +1,6 @@
 // The words, hosts and addresses of a record, made of the numbers in its rows.
 #![tactic(auto)]
+
 ghost use Rattle.std.specs.Prelude.{◌≡◌, length, drop};
 ghost use Rattle.apply.specs.Apply.{ssl_mode_of, ssl_negotiation_of, target_session_attrs_of, channel_binding_of, load_balance_hosts_of};
 ghost use Rattle.rows.specs.Rows.{host_at, hosts_of, address_at, addresses_of};

@@ -1,5 +1,6 @@
 // The rows of numbers that hold a record's settings while a text is read: what record they stand for, and the first ones.
 #![tactic(auto)]
+
 ghost use Rattle.std.specs.Prelude.{◌≡◌};
 ghost use Rattle.rows.specs.Rows.{first_fields};
 

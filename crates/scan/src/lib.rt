@@ -1,5 +1,6 @@
 // How far white space and a key go from a place of a key-value text.
 #![tactic(auto)]
+
 ghost use Rattle.std.specs.Prelude.{◌≡◌, drop};
 ghost use Rattle.scan.specs.Scan.{end_of, solid, starts_space, space_len, ends_key, key_len};
 

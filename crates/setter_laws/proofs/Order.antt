@@ -2,7 +2,7 @@
 -- Assumes nothing.
 use Prim.Native.Nat.{ℕ, ◌+◌}
 use mathlib.Core.Path.{◌≡◌, refl, sym, ap, ◌∙◌}
-use mathlib.Core.Bool.{Bool, true, false, ◌&&◌}
+use mathlib.Core.Bool.{Bool, true, false}
 use native.Mathlib.Omega.{arith}
 use borrow.Author.Tests.{ltb-true, le-leb, eqb-true, ne_eqb}
 use lib.Dec.{eqb, ltb, leb}
@@ -11,12 +11,10 @@ use Rattle.address.specs.declared.Address.{Address}
 use Rattle.lists.specs.declared.Fault.{Fault}
 use Rattle.lists.specs.declared.Addresses.{Addresses}
 use Rattle.lists.specs.declared.Ports.{Ports}
-use Rattle.lists.specs.Fault.{number_of}
 use Rattle.lists.specs.Append.{more, pushed}
 use Rattle.lists.specs.Lists.{address_slots, more_addresses, address_kept, port_slots, more_ports, port_kept}
 use Rattle.config.specs.declared.Config.{Config}
 use Rattle.config.specs.Sound.{counted}
-use Rattle.setters.specs.declared.Answer.{Answer}
 use Rattle.setters.specs.Setter.{Value, room, refusal, changed, set}
 
 -- one more in a list is counted above 16 only where the list was

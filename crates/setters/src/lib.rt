@@ -1,5 +1,6 @@
 // The setters of numbers, with the record passed by value: the record with one setting changed, or the record as it was and why.
 #![tactic(auto)]
+
 ghost use Rattle.std.specs.Prelude.{◌≡◌};
 ghost use Rattle.setters.specs.Setter.{number, switch, set};
 

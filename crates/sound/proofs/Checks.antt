@@ -1,24 +1,21 @@
 -- Which records are sound, by the tests in the code's order.
 -- Assumes nothing.
 use Prim.Native.Nat.{ℕ, suc, ◌+◌, ◌-◌, ◌<◌, ◌≤◌}
-use mathlib.Core.Path.{◌≡◌, refl, sym, ap, ◌∙◌}
-use mathlib.Core.Bool.{Bool, true, false, ◌&&◌}
-use mathlib.Core.List.{List, [], ◌∷◌}
+use mathlib.Core.Path.{◌≡◌, sym, ◌∙◌}
+use mathlib.Core.Bool.{true, false, ◌&&◌}
 use native.Mathlib.Omega.{arith}
 use native.Mathlib.Nat.{sub-zero}
 use native.Mathlib.Numerals.{add-one}
 use lib.Dec.{leb}
-use lib.ListN.{length, get_or, take, drop, length-drop, drop_of_length-le}
-use lib.Seq.{take-nil, take_all, drop-cons}
+use lib.ListN.{length, get_or, take, drop, drop_of_length-le}
+use lib.Seq.{take-nil, drop-cons}
 use borrow.Author.Tests.{le-leb, lt-leb}
-use Rattle.byte.specs.Byte.{pick}
 use Rattle.lists.specs.declared.Place.{Place}
 use Rattle.lists.specs.declared.HostKind.{HostKind}
 use Rattle.lists.specs.declared.Host.{Host}
 use Rattle.lists.specs.declared.Hosts.{Hosts}
 use Rattle.config.specs.declared.Text.{Text}
 use Rattle.config.specs.declared.Config.{Config}
-use Rattle.config.specs.Values.{place_shown}
 use Rattle.config.specs.Sound.{counted, place_in, text_in, kind_in, all_in, hosts_in, sound}
 
 -- a place

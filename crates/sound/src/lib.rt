@@ -1,5 +1,6 @@
 // Which records a report takes: those whose counts and places can be believed.
 #![tactic(auto)]
+
 ghost use Rattle.std.specs.Prelude.{◌≡◌};
 ghost use Rattle.config.specs.Sound.{counted, place_in, text_in, kind_in, hosts_in, sound};
 

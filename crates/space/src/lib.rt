@@ -1,5 +1,6 @@
 // White space: the 25 code points of Unicode's White_Space property, as one table that every scan goes by.
 #![tactic(auto)]
+
 ghost use Rattle.std.specs.Prelude.{◌≡◌};
 ghost use Rattle.space.specs.Space.{is_space};
 

@@ -1,5 +1,6 @@
 // A text split at a byte.
 #![tactic(auto)]
+
 ghost use Rattle.std.specs.Prelude.{◌≡◌, ◌+◌, drop};
 ghost use Rattle.split.specs.Split.{first_at};
 

@@ -2,12 +2,11 @@
 -- Assumes nothing.
 use Prim.Native.Nat.{ℕ, ◌+◌, ◌-◌, ◌≤◌, ◌<◌}
 use mathlib.Core.Path.{◌≡◌, refl, sym, ap, subst, ◌∙◌}
-use mathlib.Core.Bool.{Bool, true, false, ◌||◌}
-use mathlib.Core.List.{List, [], ◌∷◌}
+use mathlib.Core.Bool.{Bool, true, false}
+use mathlib.Core.List.{List}
 use native.Mathlib.Omega.{arith}
-use lib.Dec.{eqb}
 use lib.ListN.{length, drop}
-use Rattle.byte.specs.Byte.{pick, part_of, between}
+use Rattle.byte.specs.Byte.{part_of, between}
 use Rattle.setting.specs.Setting.{Setting, kind_of, value_of, Reading, ends, follows}
 use Rattle.keyvalue.specs.declared.Step.{Step}
 use Rattle.keyvalue.specs.declared.Step.TheVariants.{Done, Refused, Found as FoundPair}
@@ -19,9 +18,8 @@ use Rattle.keyvalue.proofs.Reading.{setting_of, reading-done, reading-refused, r
 use Rattle.url_parser.specs.declared.Stage.{Stage}
 use Rattle.url_parser.specs.declared.Url.{Url}
 use Rattle.url_parser.specs.declared.Found.{Found}
-use Rattle.url_parser.specs.declared.UrlStep.{UrlStep}
 use Rattle.url_parser.specs.declared.UrlStep.TheVariants.{Given, Ended}
-use Rattle.url_parser.specs.Step.{url, step_at, value_in, reading_from}
+use Rattle.url_parser.specs.Step.{url, value_in, reading_from}
 use Rattle.url_parser.proofs.Reading.{Gives, left, reading_step, reading-end}
 use Rattle.url_parser.proofs.Branches.{value-fixed}
 use Rattle.taking.specs.Taking.{keeps}

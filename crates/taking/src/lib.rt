@@ -1,5 +1,6 @@
 // The next setting of a text, a URI or key-value pairs, read and written into the buffer.
 #![tactic(auto)]
+
 ghost use Rattle.std.specs.Prelude.{◌≡◌};
 ghost use Rattle.byte.specs.Byte.{pick};
 ghost use Rattle.byte.specs.Put.{written, after};

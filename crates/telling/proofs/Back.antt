@@ -1,18 +1,18 @@
 -- The bytes of a value of each kind, read back.
 -- Assumes nothing.
-use Prim.Native.Nat.{ℕ, zero, suc, ◌+◌, ◌*◌, ◌/◌, ◌%◌, ◌^◌, ◌<◌, ◌≤◌}
+use Prim.Native.Nat.{ℕ, ◌+◌, ◌*◌, ◌/◌, ◌%◌, ◌^◌, ◌<◌}
 use mathlib.Core.Path.{◌≡◌, refl, sym, ap, ◌∙◌}
-use mathlib.Core.Bool.{Bool, true, false, ◌&&◌, not}
+use mathlib.Core.Bool.{Bool, true, false, ◌&&◌}
 use mathlib.Core.List.{List, [], ◌∷◌, ◌++◌, map, append_assoc}
 use mathlib.Core.Logic.{inl, inr}
 use native.Mathlib.Omega.{arith}
-use lib.Dec.{eqb, ltb}
-use lib.ListN.{length, get_or, take, drop, length-take, length-append}
-use borrow.Author.Tests.{eq-eqb, ne_eqb, eqb-false, not-true, not-false}
-use Rattle.byte.specs.Byte.{pick, between}
+use lib.Dec.{ltb}
+use lib.ListN.{length, take, drop, length-take, length-append}
+use borrow.Author.Tests.{eq-eqb, ne_eqb, eqb-false, not-true}
+use Rattle.byte.specs.Byte.{between}
 use Rattle.byte.specs.Digit.{digit_of}
 use Rattle.byte.proofs.Laws.{and_left, and_right}
-use Rattle.names.specs.Names.{word_name, words_of}
+use Rattle.names.specs.Names.{words_of}
 use Rattle.names.specs.Find.{word_number}
 use Rattle.name_table.proofs.Examples.{word-own}
 use Rattle.number.specs.Digits.{all_digits, value_in}
@@ -29,7 +29,7 @@ use Rattle.draw.specs.Parts.{joined}
 use Rattle.escape.specs.Escape.{plain, escape, text_value}
 use Rattle.escape.proofs.Escape.{escape-plain, escape-other}
 use Rattle.draw.proofs.Escape.{text-none, text-cons}
-use Rattle.line.specs.Line.{word_value, host_value, number_value, quad_value, kind_value}
+use Rattle.line.specs.Line.{word_value, number_value, quad_value, kind_value}
 use Rattle.line.proofs.Values.{word-joined, number-joined, host-joined, four-joined, quad-joined, v4-joined, v6-joined, quad-size}
 use Rattle.config.specs.Values.{HostValue, tcp, unix}
 use Rattle.field.specs.Field.{named_host}

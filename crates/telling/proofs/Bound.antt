@@ -7,7 +7,6 @@ use mathlib.Core.List.{List, [], ◌∷◌, map}
 use mathlib.Core.Option.{Option, some, none}
 use native.Mathlib.Omega.{arith}
 use lib.ListN.{length}
-use Rattle.byte.specs.Ascii.{bytes}
 use Rattle.names.specs.Names.{key_name}
 use Rattle.escape.specs.Escape.{text_value}
 use Rattle.draw.proofs.Escape.{text-size}

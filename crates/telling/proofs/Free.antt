@@ -1,16 +1,16 @@
 -- Texts that are free of a byte: keys have no `=`, and neither keys nor values have a line's end.
 -- Assumes nothing.
-use Prim.Native.Nat.{ℕ, ◌+◌, ◌/◌, ◌%◌, ◌^◌, ◌<◌, ◌≤◌}
-use mathlib.Core.Path.{◌≡◌, refl, sym, ap, ◌∙◌}
-use mathlib.Core.Bool.{Bool, true, false, ◌&&◌, not}
+use Prim.Native.Nat.{ℕ, ◌/◌, ◌%◌, ◌^◌, ◌<◌}
+use mathlib.Core.Path.{◌≡◌, refl}
+use mathlib.Core.Bool.{Bool, true, false}
 use mathlib.Core.List.{List, [], ◌∷◌, ◌++◌}
-use mathlib.Core.Logic.{◌⊎◌, inl, inr, ⊎_elim}
+use mathlib.Core.Logic.{◌⊎◌, inl, ⊎_elim}
 use native.Mathlib.Omega.{arith}
 use lib.Dec.{eqb}
 use lib.ListN.{length}
 use borrow.Author.Tests.{eqb-true}
 use Rattle.byte.specs.Ascii.{bytes}
-use Rattle.byte.specs.Byte.{pick, between}
+use Rattle.byte.specs.Byte.{pick}
 use Rattle.byte.proofs.Laws.{In, between_in, and_left}
 use Rattle.byte.proofs.Table.{every, holds_at}
 use Rattle.names.specs.Names.{key_name, word_name, words_of}

@@ -4,4 +4,5 @@ pub mod Free
 pub mod Rows
 pub mod Back
 pub mod Told
+pub mod Equal
 pub mod Shown

@@ -1,10 +1,10 @@
 -- What a record shows over a buffer of bytes is in range, and of document 01's sizes where its counts are.
 -- Assumes nothing.
-use Prim.Native.Nat.{ℕ, zero, suc, ◌+◌, ◌^◌, ◌<◌, ◌≤◌}
-use mathlib.Core.Path.{◌≡◌, refl, sym, ap, ◌∙◌}
+use Prim.Native.Nat.{ℕ, zero, suc, ◌^◌, ◌<◌, ◌≤◌}
+use mathlib.Core.Path.{◌≡◌}
 use mathlib.Core.Bool.{Bool, true, false, ◌&&◌}
 use mathlib.Core.List.{List, [], ◌∷◌, map}
-use mathlib.Core.Option.{Option, some, none}
+use mathlib.Core.Option.{some, none}
 use native.Mathlib.Omega.{arith}
 use lib.Dec.{leb}
 use lib.ListN.{length, take, drop, length-map, length-take}
@@ -14,10 +14,9 @@ use Rattle.byte.proofs.Laws.{and_left, and_right}
 use Rattle.lists.specs.declared.Place.{Place}
 use Rattle.lists.specs.declared.HostKind.{HostKind}
 use Rattle.lists.specs.declared.Host.{Host}
-use Rattle.lists.specs.declared.Hosts.{Hosts}
 use Rattle.config.specs.declared.Text.{Text}
 use Rattle.config.specs.declared.Config.{Config}
-use Rattle.config.specs.Values.{place_shown, text_shown, kind_shown, host_shown, hosts_shown, ports_shown, shown}
+use Rattle.config.specs.Values.{place_shown, text_shown, kind_shown, host_shown, ports_shown, shown}
 use Rattle.config.specs.Sound.{counted}
 use Rattle.telling.specs.Bound.{All, Maybe, Sized}
 use Rattle.telling.specs.Ranged.{Bytes, Small, NamedBytes, HostsBytes, Ranged}

@@ -1,30 +1,27 @@
 -- What a report tells: read back, it gives all that was shown, of the password whether it is set. So two reports are equal exactly when all that they show is.
 -- Assumes nothing.
-use Prim.Native.Nat.{ℕ, zero, suc, ◌+◌, ◌^◌, ◌<◌, ◌≤◌}
-use mathlib.Core.Path.{◌≡◌, refl, sym, ap, ◌∙◌}
+use Prim.Native.Nat.{ℕ, ◌+◌, ◌<◌}
+use mathlib.Core.Path.{◌≡◌, refl, ap, ◌∙◌}
 use mathlib.Core.Bool.{Bool, true, false}
 use mathlib.Core.List.{List, [], ◌∷◌, map}
-use mathlib.Core.Logic.{◌↔◌}
 use mathlib.Core.Option.{Option, some, none}
 use native.Mathlib.Omega.{arith}
-use lib.Dec.{eqb}
-use lib.ListN.{length, get_or}
+use lib.ListN.{get_or}
 use Rattle.byte.specs.Byte.{pick}
 use Rattle.names.specs.Names.{words_of}
 use Rattle.names.specs.Find.{word_number}
-use Rattle.number.specs.Digits.{value_in}
 use Rattle.split.specs.Split.{split}
 use Rattle.address.specs.declared.Address.{Address}
 use Rattle.draw.specs.Parts.{joined}
 use Rattle.escape.specs.Escape.{text_value}
-use Rattle.line.specs.Line.{secret_value, word_value, number_value, address_value, lines_from}
+use Rattle.line.specs.Line.{secret_value, word_value, number_value, address_value}
 use Rattle.field.specs.Field.{mode_number, negotiation_number, target_number, binding_number, balance_number, optional, named_host, switch_value}
 use Rattle.config.specs.declared.SslMode.{SslMode}
 use Rattle.config.specs.declared.SslNegotiation.{SslNegotiation}
 use Rattle.config.specs.declared.TargetSessionAttrs.{TargetSessionAttrs}
 use Rattle.config.specs.declared.ChannelBinding.{ChannelBinding}
 use Rattle.config.specs.declared.LoadBalanceHosts.{LoadBalanceHosts}
-use Rattle.config.specs.Values.{HostValue, tcp, unix, Values}
+use Rattle.config.specs.Values.{HostValue, Values}
 use Rattle.view.specs.Hidden.{only_set, hidden}
 use Rattle.report.specs.Report.{values, report}
 use Rattle.telling.specs.Bound.{All, Maybe}
@@ -232,19 +229,3 @@ module _ (v : Values) (r : Ranged v) where
         channel_binding = (ap (only_back (λ (x : List ℕ). binding_back (word_number 18 x))) (key-values 17 (omega arith)) ∙ binding-back v.channel_binding) i;
         load_balance_hosts = (ap (only_back (λ (x : List ℕ). balance_back (word_number 19 x))) (key-values 18 (omega arith)) ∙ balance-back v.load_balance_hosts) i;
       }
-
--- A report shows no more than that: the password's value is not in it.
-veil-shown : (t : Option (List ℕ)) → optional (λ (x : List ℕ). secret_value) (only_set t) ≡ optional (λ (x : List ℕ). secret_value) t
-veil-shown none = refl
-veil-shown (some x) = refl
-
-pub report-hidden : (v : Values) → report (hidden v) ≡ report v
-unfolding report values hidden
-report-hidden v = rw (veil-shown v.password)
-
-pub blind : (v w : Values) → hidden v ≡ hidden w → report v ≡ report w
-blind v w e = sym (report-hidden v) ∙ ap report e ∙ report-hidden w
-
--- Two reports are equal exactly when all that is shown is equal, the password only in being set or not.
-pub telling : (v w : Values) → Ranged v → Ranged w → (report v ≡ report w) ↔ (hidden v ≡ hidden w)
-telling v w r s = ((λ e. sym (told v r) ∙ ap read_back e ∙ told w s), blind v w)

@@ -1,6 +1,6 @@
 -- A report read back: its lines, the key and the value of each, and the values that the texts stand for.
 -- Assumes nothing.
-use Rattle.std.specs.Prelude.{ℕ, suc, zero, ◌+◌, ◌*◌, ◌^◌, Bool, true, false, List, [], ◌∷◌, map, eqb, length, get_or, take, drop}
+use Rattle.std.specs.Prelude.{ℕ, suc, zero, ◌+◌, ◌*◌, ◌^◌, Bool, List, [], ◌∷◌, map, eqb, length, get_or, take, drop}
 use Rattle.std.proofs.Math.Option.{Option, some, none}
 use Rattle.byte.specs.Byte.{pick}
 use Rattle.names.specs.Find.{key_number, word_number}

@@ -1,5 +1,6 @@
 // A chunk of a URI's host part: where it ends, and where in it its host stands. Pure scans, which write nothing.
 #![tactic(auto)]
+
 ghost use Rattle.std.specs.Prelude.{◌≡◌, ◌+◌, eqb, drop};
 ghost use Rattle.url_parser.specs.Uri.{first_of, ends_hosts, closes};
 ghost use Rattle.url_parser.specs.Step.{ends_chunk, ends_host, ends_plain_host, host_place};

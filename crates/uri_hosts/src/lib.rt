@@ -1,5 +1,6 @@
 // The steps of a URI's host part: a chunk's host, then its port.
 #![tactic(auto)]
+
 ghost use Rattle.std.specs.Prelude.{◌≡◌, drop};
 ghost use Rattle.url_parser.specs.Step.{chunk_step, port_step, behind_chunk};
 

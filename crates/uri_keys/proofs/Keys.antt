@@ -12,7 +12,7 @@ use Rattle.byte.specs.Ascii.{bytes}
 use Rattle.byte.specs.Byte.{pick, part_of, between}
 use Rattle.byte.specs.Same.{same}
 use Rattle.byte.specs.Put.{after, written}
-use Rattle.byte.proofs.Table.{every, holds_at}
+use Rattle.byte.proofs.Table.{holds_at}
 use Rattle.byte.proofs.Same.{same_true, same_refl}
 use Rattle.byte.proofs.Parts.{part-is, part-empty}
 use Rattle.byte.proofs.Writing.{written-room, after-room, after-short, part-put}

@@ -1,5 +1,6 @@
 // Which kind of setting a URI's parameter gives, by its key.
 #![tactic(auto)]
+
 ghost use Rattle.std.specs.Prelude.{◌≡◌};
 ghost use Rattle.percent.specs.Percent.{decoded};
 ghost use Rattle.uri_keys.specs.Kind.{param_kind, key_kind};

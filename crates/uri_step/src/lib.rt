@@ -1,5 +1,6 @@
 // One step of the reading of a URI, at any stage: a pure scan of the lent text from a place on, which writes nothing.
 #![tactic(auto)]
+
 ghost use Rattle.std.specs.Prelude.{◌≡◌, drop};
 ghost use Rattle.url_parser.specs.Step.{credentials_step, password_step, host_step, path_step, database_step, params_step, parameter_step, value_step, step_at};
 

@@ -1,5 +1,6 @@
 // The value of a URI's setting: judged before it is given, written once it is; one host among the parameters.
 #![tactic(auto)]
+
 ghost use Rattle.std.specs.Prelude.{◌≡◌, drop};
 ghost use Rattle.byte.specs.Put.{written, after};
 ghost use Rattle.url_parser.specs.Step.{give, skipped, host_checked, value_step, value_in};

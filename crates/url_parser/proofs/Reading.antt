@@ -29,7 +29,7 @@ use Rattle.url_parser.specs.declared.Found.{Found}
 use Rattle.url_parser.specs.declared.UrlStep.{UrlStep}
 use Rattle.url_parser.specs.declared.UrlStep.TheVariants.{Given, Ended}
 use Rattle.url_parser.specs.declared.HostPlace.{HostPlace}
-use Rattle.url_parser.specs.Uri.{has, up_to, beyond, first_of, text, host_fits, host, value, parameter, parameters, params, dbname, database, path, port, chunk, ends_hosts, host_chunks, hosts, password, credentials, uri}
+use Rattle.url_parser.specs.Uri.{has, up_to, beyond, first_of, text, host_fits, host, value, parameter, parameters, params, dbname, database, path, port, ends_hosts, host_chunks, hosts, password, credentials, uri}
 use Rattle.url_parser.specs.Step.{url, found, give, skipped, host_checked, param_kind, key_kind, value_step, key_step, parameter_step, params_step, database_step, path_step, ends_chunk, chunk_end, behind_chunk, fixed_port, port_step, host_place, placed_step, chunk_step, host_step, password_step, user_end, credentials_step, stage_step, step_at, value_in, port_and_on, stage_reading, reading_from}
 use Rattle.url_parser.proofs.Places.{front-byte, part-front, part-shift, part-take, drop-take, drop-skipped, skip-from, skip-within, of-most, first-drop}
 use Rattle.uri_keys.proofs.Keys.{key-most, kind-most, setting-most, user-one, password-two, dbname-three, port-ten}

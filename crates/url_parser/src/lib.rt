@@ -1,5 +1,6 @@
 // A URI behind its prefix, read a setting a step: what stands where, what a step gives, and what the steps come to.
 #![tactic(auto)]
+
 ghost use Rattle.std.specs.Prelude.{◌≡◌};
 ghost use Rattle.url_parser.specs.Step.{url};
 

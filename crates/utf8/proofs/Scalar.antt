@@ -12,7 +12,7 @@ use borrow.Author.Tests.{leb-true, leb-false, le-leb, lt-leb, eqb-true, eqb-fals
 use Rattle.byte.specs.Byte.{pick}
 use Rattle.byte.proofs.Laws.{and_left, and_right}
 use Rattle.utf8.specs.declared.Char.{Char}
-use Rattle.utf8.specs.Utf8.{char, none, least, greatest, char_at, well_from, well_formed}
+use Rattle.utf8.specs.Utf8.{char, least, greatest, char_at, well_from, well_formed}
 use Rattle.utf8.specs.Grammar.{Range, UTF8-tail, UTF8-3, UTF8-4}
 use Rattle.utf8.specs.Scalar.{Scalar, Scalars, Shortest, encoded, encoded_all, codes, codes_from}
 use Rattle.utf8.proofs.Laws.{skip, inside, take-one, take-two, take-three}

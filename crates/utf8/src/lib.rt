@@ -1,5 +1,6 @@
 // UTF-8 by RFC 3629: the character at a place of a text.
 #![tactic(auto)]
+
 ghost use Rattle.std.specs.Prelude.{◌≡◌, drop};
 ghost use Rattle.utf8.specs.Utf8.{two, three, four, longer, char_at};
 

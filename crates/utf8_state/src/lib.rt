@@ -1,5 +1,6 @@
 // UTF-8 by RFC 3629, judged byte by byte.
 #![tactic(auto)]
+
 ghost use Rattle.std.specs.Prelude.{◌≡◌};
 ghost use Rattle.utf8_state.specs.Bytewise.{start_state, first_state, next_state, whole_state};
 

@@ -1,5 +1,6 @@
 // UTF-8 by RFC 3629: which bytes may stand behind a character's first.
 #![tactic(auto)]
+
 ghost use Rattle.std.specs.Prelude.{◌≡◌};
 ghost use Rattle.utf8_tail.specs.Tail.{tail, least, greatest, second};
 

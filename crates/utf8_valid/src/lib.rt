@@ -1,5 +1,6 @@
 // UTF-8 by RFC 3629: whether a text is well formed.
 #![tactic(auto)]
+
 ghost use Rattle.std.specs.Prelude.{◌≡◌, true, ◌-◌, ◌≤◌, ◌<◌, length, drop};
 ghost use Rattle.utf8.specs.Utf8.{char_at, well_formed};
 

@@ -1,6 +1,10 @@
 // What a vector is read by: a number of two bytes, and as many bytes from standard input as it says.
 #![tactic(auto)]
+
 ghost use Rattle.std.specs.Prelude.{◌≡◌, ◌+◌, ◌*◌, ◌≤◌};
+
+use std::io;
+use std::io::Read;
 
 // Two bytes, the high one first.
 pub fn pair(high: u8, low: u8) -> usize
@@ -10,10 +14,11 @@ pub fn pair(high: u8, low: u8) -> usize
     (high as usize) * 256 + (low as usize)
 }
 
-// Fills the first n bytes of a buffer from standard input.
-pub fn fill(buf: &mut [u8], n: usize) -> bool {
+// Fills the first n bytes of a buffer from a reader.
+pub fn fill<R: Read>(from: &mut R, buf: &mut [u8], n: usize) -> io::Result<bool> {
     if buf.len() < n {
-        return false;
+        return Ok(false);
     }
-    io::read_full(0, &mut buf[..n]) == n
+    let got = filling::read_full(from, &mut buf[..n])?;
+    Ok(got == n)
 }

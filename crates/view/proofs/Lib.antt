@@ -1,6 +1,6 @@
 pub mod Append
 pub mod Places
 pub mod Seen
-pub mod Hidden
+pub mod Veiled
 pub mod Examples
 pub mod Told

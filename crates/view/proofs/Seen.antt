@@ -1,10 +1,9 @@
 -- A setting applied to a record, its value packed behind the buffer, and what is shown then, is that setting given to what was shown.
 -- Assumes nothing.
-use Prim.Native.Nat.{ℕ, ◌+◌, ◌-◌, ◌^◌, ◌≤◌}
+use Prim.Native.Nat.{ℕ, ◌-◌, ◌^◌, ◌≤◌}
 use mathlib.Core.Path.{◌≡◌, refl, sym, ap, subst, ◌∙◌}
 use mathlib.Core.Bool.{Bool, true, false}
 use mathlib.Core.List.{List, [], ◌∷◌, ◌++◌, map, map-append}
-use mathlib.Core.Option.{some, none}
 use native.Mathlib.Omega.{arith}
 use borrow.Author.Tests.{eqb-true, le-leb}
 use lib.Dec.{eqb}
@@ -24,7 +23,7 @@ use Rattle.lists.specs.declared.MoreHosts.{MoreHosts}
 use Rattle.lists.specs.declared.MoreAddresses.{MoreAddresses}
 use Rattle.lists.specs.declared.MorePorts.{MorePorts}
 use Rattle.lists.specs.Fault.{is_fine}
-use Rattle.lists.specs.Append.{Piece, good, Slots, more, append_all, pieces_from, listed}
+use Rattle.lists.specs.Append.{Piece, good, Slots, append_all, pieces_from, listed}
 use Rattle.lists.specs.Lists.{port_slots, more_ports, address_slots, more_addresses, host_slots, more_hosts, port_piece, address_piece, host_piece, host_pushed, ports_after, addresses_after, hosts_after, host_after}
 use Rattle.config.specs.declared.Seconds.{Seconds}
 use Rattle.config.specs.declared.Retries.{Retries}
@@ -37,7 +36,7 @@ use Rattle.config.specs.declared.Config.{Config}
 use Rattle.config.specs.Config.{defaults}
 use Rattle.config.specs.Values.{HostValue, host_shown, hosts_shown, addresses_shown, ports_shown, seconds_shown, retries_shown, shown}
 use Rattle.config.specs.Sound.{counted, text_in, all_in, hosts_in, sound}
-use Rattle.apply.specs.Apply.{ssl_mode_of, ssl_negotiation_of, target_session_attrs_of, channel_binding_of, load_balance_hosts_of, word_fault, number_fault, seconds_in, time_after, retries_after, idle_after, keepalives_after, faults, fault_of, after}
+use Rattle.apply.specs.Apply.{ssl_mode_of, ssl_negotiation_of, target_session_attrs_of, channel_binding_of, load_balance_hosts_of, word_fault, number_fault, seconds_in, time_after, retries_after, idle_after, keepalives_after, fault_of, after}
 use Rattle.view.specs.Given.{list_refused, entries_of, host_value, host_pieces, one_host_piece, address_pieces, port_pieces, time_given, retries_given, refused, given}
 use Rattle.view.proofs.Append.{Room, entries, Grown, count_entries, append-fault, append-entries, append-one, pieces-anywhere, refused-seen, entries-seen}
 use Rattle.view.proofs.Places.{Laid, laid-whole, laid-pieces, text-on, text-grows, text-seen, text-in, hosts-grow, hosts-shown, hosts-in, all-on, all_append}

@@ -1,7 +1,7 @@
 -- From what the two functions answered and left to a run of 01, and so to demand 3.
 -- Assumes nothing.
 use Prim.Native.Nat.{ℕ}
-use mathlib.Core.Path.{◌≡◌, sym, subst, ◌∙◌}
+use mathlib.Core.Path.{◌≡◌, sym, subst}
 use mathlib.Core.List.{List}
 use lib.ListN.{length}
 use Rattle.outcome.specs.declared.Answer.{Answer}

@@ -1,5 +1,6 @@
 // Two texts read and reported: what came back meets demand 3 of the mission.
 #![tactic(auto)]
+
 ghost use Rattle.std.specs.Prelude.{◌≡◌, length};
 ghost use Rattle.outcome.specs.Outcome.{left};
 ghost use Rattle.demands.specs.Telling.{DemandThree};

@@ -1,5 +1,6 @@
 // The setters of words, as crate setters has those of numbers.
 #![tactic(auto)]
+
 ghost use Rattle.std.specs.Prelude.{◌≡◌};
 ghost use Rattle.setters.specs.Setter.{mode, negotiation, target, binding, balance, set};
 

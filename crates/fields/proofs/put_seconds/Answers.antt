@@ -1,0 +1,11 @@
+use borrow.Author.Tests.{not-true, not-false}
+use Rattle.field.proofs.Steps.{unset-drawn, set-drawn}
+use Rattle.fields.proofs.put_seconds.Goals as goal
+
+pub returns-then-not-s : goal.returns-then-not-s
+returns-then-not-s c =
+    let a = c.args in unset-drawn a.key _ a.s.set _ a.s.seconds (not-true _ c.if-not-s.true)
+
+pub returns : goal.returns
+returns c =
+    let a = c.args in set-drawn a.key _ a.s.set _ a.s.seconds _ (not-false _ c.if-not-s.false) c.number_line.ensures

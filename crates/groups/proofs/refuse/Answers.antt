@@ -1,0 +1,10 @@
+-- `groups::refuse`: by computation.
+-- Assumes nothing.
+use mathlib.Core.Path.{refl}
+use Rattle.groups.specs.Eight.{packed}
+use Rattle.groups.proofs.refuse.Goals as goal
+
+pub returns : goal.returns
+unfolding packed
+returns c =
+    refl

@@ -1,0 +1,14 @@
+use Rattle.setters.proofs.Answers.{unsound, stored}
+use Rattle.setters.specs.Setter.{room, changed}
+use borrow.Author.Tests.{not-true, not-false}
+use mathlib.Core.Path.{refl, sym, ◌∙◌}
+use Rattle.setters.proofs.keepalives_idle.Goals as goal
+
+pub returns-then-not-counts_in : goal.returns-then-not-counts_in
+returns-then-not-counts_in c =
+    unsound 14 _ _ (sym c.counts_in.ensures ∙ not-true _ c.if-not-counts_in.true-raw)
+
+pub returns : goal.returns
+unfolding room changed
+returns c =
+    stored 14 _ _ (sym c.counts_in.ensures ∙ not-false _ c.if-not-counts_in.false-raw) refl

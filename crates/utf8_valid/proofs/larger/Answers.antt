@@ -1,0 +1,10 @@
+use native.Mathlib.Omega.{arith}
+use Rattle.utf8_valid.proofs.larger.Goals as goal
+
+pub returns-then-a-b : goal.returns-then-a-b
+returns-then-a-b c =
+    (omega arith, omega arith)
+
+pub returns-else-a-b : goal.returns-else-a-b
+returns-else-a-b c =
+    (omega arith, omega arith)
