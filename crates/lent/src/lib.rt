@@ -1,4 +1,4 @@
-// The setters in place, called with a record of one's own: it is lent to the setter and handed back. A caller of these needs no walk.
+// The setters in place, called with a record of one's own: it is lent to the setter and handed back.
 #![tactic(auto)]
 
 ghost use Rattle.std.specs.Prelude.{◌≡◌};

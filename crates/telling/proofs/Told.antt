@@ -1,4 +1,4 @@
--- What a report tells: read back, it gives all that was shown, of the password whether it is set. So two reports are equal exactly when all that they show is.
+-- What a report tells: read back, it gives all that was shown, of the password whether it is set. Equal has what follows for two reports.
 -- Assumes nothing.
 use Prim.Native.Nat.{ℕ, ◌+◌, ◌<◌}
 use mathlib.Core.Path.{◌≡◌, refl, ap, ◌∙◌}

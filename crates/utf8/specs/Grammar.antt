@@ -2,7 +2,7 @@
 -- Assumes nothing.
 use Rattle.std.specs.Prelude.{ℕ, ◌≤◌, List, [], ◌∷◌, ◌++◌}
 
--- %x_lo-HI
+-- %xLO-HI
 pub record Range (lo hi b : ℕ) : Type 0 where
   pub low : lo ≤ b
   pub high : b ≤ hi
@@ -15,18 +15,18 @@ UTF8-tail b = Range 0x80 0xbf b
 pub data UTF8-1 : List ℕ → Type 0 where
   ascii : {a : ℕ} → Range 0 0x7f a → UTF8-1 (a ∷ [])
 
--- UTF8-2 = %x_c2-DF UTF8-tail
+-- UTF8-2 = %xC2-DF UTF8-tail
 pub data UTF8-2 : List ℕ → Type 0 where
   from-c2 : {a b : ℕ} → Range 0xc2 0xdf a → UTF8-tail b → UTF8-2 (a ∷ b ∷ [])
 
--- UTF8-3 = %x_e0 %x_a0-BF UTF8-tail / %x_e1-EC 2( UTF8-tail ) / %x_ed %x80-9F UTF8-tail / %x_ee-EF 2( UTF8-tail )
+-- UTF8-3 = %xE0 %xA0-BF UTF8-tail / %xE1-EC 2( UTF8-tail ) / %xED %x80-9F UTF8-tail / %xEE-EF 2( UTF8-tail )
 pub data UTF8-3 : List ℕ → Type 0 where
   at-e0 : {b c : ℕ} → Range 0xa0 0xbf b → UTF8-tail c → UTF8-3 (0xe0 ∷ b ∷ c ∷ [])
   from-e1 : {a b c : ℕ} → Range 0xe1 0xec a → UTF8-tail b → UTF8-tail c → UTF8-3 (a ∷ b ∷ c ∷ [])
   at-ed : {b c : ℕ} → Range 0x80 0x9f b → UTF8-tail c → UTF8-3 (0xed ∷ b ∷ c ∷ [])
   from-ee : {a b c : ℕ} → Range 0xee 0xef a → UTF8-tail b → UTF8-tail c → UTF8-3 (a ∷ b ∷ c ∷ [])
 
--- UTF8-4 = %x_f0 %x90-BF 2( UTF8-tail ) / %x_f1-F3 3( UTF8-tail ) / %x_f4 %x80-8F 2( UTF8-tail )
+-- UTF8-4 = %xF0 %x90-BF 2( UTF8-tail ) / %xF1-F3 3( UTF8-tail ) / %xF4 %x80-8F 2( UTF8-tail )
 pub data UTF8-4 : List ℕ → Type 0 where
   at-f0 : {b c d : ℕ} → Range 0x90 0xbf b → UTF8-tail c → UTF8-tail d → UTF8-4 (0xf0 ∷ b ∷ c ∷ d ∷ [])
   from-f1 : {a b c d : ℕ} → Range 0xf1 0xf3 a → UTF8-tail b → UTF8-tail c → UTF8-tail d → UTF8-4 (a ∷ b ∷ c ∷ d ∷ [])

@@ -7,11 +7,11 @@ use Rattle.byte.specs.Byte.{pick, between}
 abbrev pub tail : ℕ → Bool
 tail b = between 0x80 0xbf b
 
--- the second byte is a UTF8-tail too, but for %x_e0 %x_a0-BF and %x_f0 %x90-BF, which rule the overlong forms out,
+-- the second byte is a UTF8-tail too, but for %xE0 %xA0-BF and %xF0 %x90-BF, which rule the overlong forms out,
 unfoldable pub least : ℕ → ℕ
 least a = pick (eqb a 0xe0) 0xa0 (pick (eqb a 0xf0) 0x90 0x80)
 
--- and %x_ed %x80-9F and %x_f4 %x80-8F, which rule out the surrogates and what lies above 10FFFF
+-- and %xED %x80-9F and %xF4 %x80-8F, which rule out the surrogates and what lies above 10FFFF
 unfoldable pub greatest : ℕ → ℕ
 greatest a = pick (eqb a 0xed) 0x9f (pick (eqb a 0xf4) 0x8f 0xbf)
 

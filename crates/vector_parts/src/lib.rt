@@ -1,7 +1,7 @@
 // What a vector is read by: a number of two bytes, and as many bytes from standard input as it says.
 #![tactic(auto)]
 
-ghost use Rattle.std.specs.Prelude.{◌≡◌, ◌+◌, ◌*◌, ◌≤◌};
+ghost use Rattle.std.specs.Prelude.{◌≡◌, ◌+◌, ◌*◌, ◌≤◌, length};
 
 use std::io;
 use std::io::Read;
@@ -14,8 +14,10 @@ pub fn pair(high: u8, low: u8) -> usize
     (high as usize) * 256 + (low as usize)
 }
 
-// Fills the first n bytes of a buffer from a reader.
-pub fn fill<R: Read>(from: &mut R, buf: &mut [u8], n: usize) -> io::Result<bool> {
+// Fills the first n bytes of a buffer from a reader. Where a read fails, its error is the answer, and the buffer keeps its length.
+pub fn fill<R: Read>(from: &mut R, buf: &mut [u8], n: usize) -> io::Result<bool>
+    ensures length_after { length buf.new ≡ length buf.old }
+{
     if buf.len() < n {
         return Ok(false);
     }
