@@ -1,6 +1,6 @@
 #!/usr/bin/env bash
 # Builds the example host in C over the proved archive, runs it on examples/host.stdin, and holds what it prints to
-# examples/host.stdout. Where there is no C compiler it says so, and succeeds.
+# examples/host.stdout. On aarch64 it is cross-built and run by qemu-user. Where the tools are missing it says so, and succeeds.
 set -euo pipefail
 cd "$(dirname "$0")/.."
 case $(uname -m) in
