@@ -5,6 +5,7 @@ ghost use Rattle.std.specs.Prelude.{◌≡◌};
 ghost use Rattle.setters.specs.Setter.{number, set};
 
 use config::Config;
+use setters::Answer;
 
 // Key 10, port.
 pub fn set_port(c: &mut Config, port: u16) -> usize
@@ -47,6 +48,17 @@ pub fn set_keepalives_interval(c: &mut Config, seconds: u64) -> usize
     ensures { (result ≡ (set 15 (number seconds) c.old).number) × (c.new ≡ (set 15 (number seconds) c.old).config) }
 {
     let a = setters::keepalives_interval(*c, seconds);
+    *c = a.config;
+    a.number
+}
+
+// One law for every setter of this shape, called by nobody: whatever X is, where `set` answers `def` of the record and `x` by value, the
+// number is that answer's, and the record left is that answer's.
+pub fn set_by<X, F: FnOnce(Config, X) -> Answer>(c: &mut Config, x: X, set: F) -> usize
+    requires { F.pre set c.old x }
+    ensures { (def : Config → X → Answer) → ((a : Answer) → F.post set c.old x a → a ≡ def c.old x) → (result ≡ (def c.old x).number) × (c.new ≡ (def c.old x).config) }
+{
+    let a = set(*c, x);
     *c = a.config;
     a.number
 }

@@ -1,7 +1,7 @@
 // The setters in place, called with a record of one's own: it is lent to the setter and handed back.
 #![tactic(auto)]
 
-ghost use Rattle.std.specs.Prelude.{◌≡◌};
+ghost use Rattle.std.specs.Prelude.{ℕ, ◌≡◌};
 ghost use Rattle.setters.specs.Setter.{number, set};
 
 use config::Config;
@@ -61,6 +61,20 @@ pub fn lend_keepalives_interval(c: Config, seconds: u64) -> Answer
 {
     let mut own = c;
     let number = in_place::set_keepalives_interval(&mut own, seconds);
+    Answer {
+        number: number,
+        config: own,
+    }
+}
+
+// One law for every function of this shape, called by nobody: whatever X is, where `set` hands back the number of `def` and leaves its
+// record in place, the answer is that of `def`.
+pub fn lend_by<X, F: FnOnce(&mut Config, X) -> usize>(c: Config, x: X, set: F) -> Answer
+    requires { F.IsAlwaysCallable set }
+    ensures { (def : Config → X → Answer) → ((own : _) (r : ℕ) (back : _) → F.post set own x r back → (r ≡ (def own.now x).number) × (back.now ≡ (def own.now x).config)) → result ≡ def c x }
+{
+    let mut own = c;
+    let number = set(&mut own, x);
     Answer {
         number: number,
         config: own,
