@@ -1,7 +1,8 @@
 /* Nyimbrak: PostgreSQL connection strings read into a report and into values, by proved code.
  *
- * Link with libnyimbrak.a (`make staticlib`), on x86-64 Linux. The archive needs nothing but what is lent to it: it allocates
- * nothing, keeps nothing between calls, calls nothing, and may be called from any number of threads at once.
+ * Link with libnyimbrak.a (`make staticlib`), on x86-64 Linux and a processor of x86-64-v2 or later. The archive needs nothing but
+ * what is lent to it, and memcpy and memset of the C library: it allocates nothing, keeps nothing between calls, calls nothing
+ * else, and may be called from any number of threads at once.
  *
  * What a C caller still owes, at every call: each pointer is not null, also where its length is 0; it points to as many bytes as
  * its length says; no two of the buffers overlap, and nothing else reads or writes them before the call returns. Everything else
