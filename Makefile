@@ -12,7 +12,7 @@
 run: kit
 	@scripts/run.sh
 
-# rt ci goes first: what it has proved is not proved again for the archives. Its last line is said once more at the end.
+# rt ci goes first. The archives are built behind it, over checks of their own. rt ci's last line is said once more at the end.
 test: kit
 	scripts/ci.sh
 	scripts/archive.sh all

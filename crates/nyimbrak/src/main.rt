@@ -37,8 +37,8 @@ fn write_answer<R: Print>(rt: &R, text: &[u8]) -> io::Result<()> {
     write_output(rt, text, byte::part(&out, 0, len))
 }
 
-// One byte over the limit, so that a text that is too long is seen. Where a read fails, its error is the answer, and `text` holds what
-// was read before, at its length.
+// One byte over the limit, so that a text that is too long is seen. Where a read fails, its error is the answer, and which bytes `text`
+// holds is not promised.
 fn read_text<R: Read>(from: &mut R, text: &mut [u8; 4097]) -> io::Result<usize>
     ensures within { IfOk result (λ n. n ≤ length text.new) }
     ensures prefix { IfOk result (λ n. n ≡ length (take n text.new)) }

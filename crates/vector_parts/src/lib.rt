@@ -1,4 +1,4 @@
-// What a vector is read by: a number of two bytes, and as many bytes from standard input as it says.
+// What a vector is read by: a number of two bytes, and as many bytes from a reader as it says.
 #![tactic(auto)]
 
 ghost use Rattle.std.specs.Prelude.{◌≡◌, ◌+◌, ◌*◌, ◌≤◌, length};
