@@ -4,7 +4,7 @@
 # staticlib     build/libnyimbrak.a, for C to link with include/nyimbrak.h
 # differential  the large runs beside Rust: some minutes at most
 # edits         the must-fail edits alone
-# slips         slips made on purpose in a copy of the reader, each to be noticed by the program replay: ten minutes
+# slips         slips made on purpose in a copy of the reader, each to be noticed by the program replay: half an hour
 # bench         instructions for one text beside the Rust's, into docs/PERFORMANCE.md
 # clean         remove what was built
 .PHONY: run test beside hosts edits test-postgres staticlib differential slips bench clean kit

@@ -1,5 +1,5 @@
 #!/usr/bin/env bash
-# The runs beside Rust: builds one x86-64 program out of the proved archives of crates probe, probe_record and dock, of
+# The runs beside Rust: builds one x86-64 program out of the proved archives of crates probe, probe_record and dock_c, of
 # Rust's own library and of the Rust that is ported, and runs it, and beside it the proved program of crate probe_setters.
 #   differential/run.sh small   what `make test` runs: where the tools can't be had it says so, and succeeds
 #   differential/run.sh large   what `make differential` runs: there the same is a failure

@@ -3,8 +3,8 @@
 set -euo pipefail
 cd "$(dirname "$0")/.."
 mkdir -p build
-rt ci 2>&1 | tee build/ci.log
-ok=$(grep '^rt: ok' build/ci.log) || { echo 'ci: rt ci said no ok' >&2 && exit 1; }
+rt ci | tee build/ci.log
+ok=$(grep '^rt: ok' build/ci.log) || { echo 'ci: rt ci said no ok' >&2; exit 1; }
 if grep -qE ', [1-9][0-9]* bad' <<<"$ok"; then
     echo 'ci: a must-fail edit is bad' >&2
     exit 1

@@ -1,4 +1,4 @@
-// The functions of crate dock as its archive exports them: a slice is a pointer, never null, and then a length.
+// The functions of crate dock, as the archive of dock_c exports them: a slice is a pointer, never null, and then a length.
 
 mod c {
     extern "C" {

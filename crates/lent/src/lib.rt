@@ -67,11 +67,11 @@ pub fn lend_keepalives_interval(c: Config, seconds: u64) -> Answer
     }
 }
 
-// One law for every function of this shape, called by nobody: whatever X is, where `set` hands back the number of `def` and leaves its
-// record in place, the answer is that of `def`.
+// One law for every function of this shape, called by nobody: whatever X is, where `set`, lent this record, hands back the number of `def`
+// and leaves its record in place, the answer is that of `def`.
 pub fn lend_by<X, F: FnOnce(&mut Config, X) -> usize>(c: Config, x: X, set: F) -> Answer
-    requires { F.IsAlwaysCallable set }
-    ensures { (def : Config → X → Answer) → ((own : _) (r : ℕ) (back : _) → F.post set own x r back → (r ≡ (def own.now x).number) × (back.now ≡ (def own.now x).config)) → result ≡ def c x }
+    requires { (own : _) → own.now ≡ c → F.pre set own x }
+    ensures { (def : Config → X → Answer) → ((own : _) (r : ℕ) (back : _) → own.now ≡ c → F.post set own x r back → (r ≡ (def c x).number) × (back.now ≡ (def c x).config)) → result ≡ def c x }
 {
     let mut own = c;
     let number = set(&mut own, x);
