@@ -1,12 +1,10 @@
 -- Which records a report takes: 17 is given where "the record given has a list count above 16, or a set text or counted host that lies outside the decode buffer".
 -- Assumes nothing.
-use Rattle.std.specs.Prelude.{ℕ, ◌-◌, Bool, true, ◌&&◌, List, [], ◌∷◌, leb, take}
-use Rattle.byte.specs.Byte.{pick}
+use Rattle.std.specs.Prelude.{ℕ, ◌-◌, Bool, true, ◌&&◌, List, [], ◌∷◌, leb, take, Option, Some, None}
 use Rattle.lists.specs.declared.Place.{Place}
 use Rattle.lists.specs.declared.HostKind.{HostKind}
 use Rattle.lists.specs.declared.Host.{Host}
 use Rattle.lists.specs.declared.Hosts.{Hosts}
-use Rattle.config.specs.declared.Text.{Text}
 use Rattle.config.specs.declared.Config.{Config}
 
 -- no list count is above 16
@@ -18,8 +16,9 @@ unfoldable pub place_in : ℕ → Place → Bool
 place_in n p = leb p.start n && leb p.len (n - p.start)
 
 -- a set text lies inside; an unset one lies nowhere
-unfoldable pub text_in : ℕ → Text → Bool
-text_in n t = pick t.set (place_in n t.place) true
+unfoldable pub text_in : ℕ → Option Place → Bool
+text_in n (Some p) = place_in n p
+text_in n None = true
 
 unfoldable pub kind_in : ℕ → HostKind → Bool
 kind_in n (HostKind.Tcp p) = place_in n p

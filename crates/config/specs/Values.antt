@@ -1,8 +1,6 @@
 -- What a record shows, given the decode buffer that its places lie in: values, and no places.
 -- Assumes nothing.
-use Rattle.std.specs.Prelude.{ℕ, Bool, List, map, take, drop}
-use Rattle.std.proofs.Math.Option.{Option, some, none}
-use Rattle.byte.specs.Byte.{pick}
+use Rattle.std.specs.Prelude.{ℕ, Bool, List, map, take, drop, Option, option_map}
 use Rattle.address.specs.declared.Address.{Address}
 use Rattle.lists.specs.declared.Place.{Place}
 use Rattle.lists.specs.declared.HostKind.{HostKind}
@@ -10,9 +8,6 @@ use Rattle.lists.specs.declared.Host.{Host}
 use Rattle.lists.specs.declared.Hosts.{Hosts}
 use Rattle.lists.specs.declared.Addresses.{Addresses}
 use Rattle.lists.specs.declared.Ports.{Ports}
-use Rattle.config.specs.declared.Text.{Text}
-use Rattle.config.specs.declared.Seconds.{Seconds}
-use Rattle.config.specs.declared.Retries.{Retries}
 use Rattle.config.specs.declared.SslMode.{SslMode}
 use Rattle.config.specs.declared.SslNegotiation.{SslNegotiation}
 use Rattle.config.specs.declared.TargetSessionAttrs.{TargetSessionAttrs}
@@ -50,8 +45,8 @@ pub record Values : Type 0 where
 unfoldable pub place_shown : List ℕ → Place → List ℕ
 place_shown b p = take p.len (drop p.start b)
 
-abbrev pub text_shown : List ℕ → Text → Option (List ℕ)
-text_shown b t = pick t.set (some (place_shown b t.place)) none
+abbrev pub text_shown : List ℕ → Option Place → Option (List ℕ)
+text_shown b t = option_map (place_shown b) t
 
 abbrev pub kind_shown : List ℕ → HostKind → HostValue
 kind_shown b (HostKind.Tcp p) = tcp (place_shown b p)
@@ -70,11 +65,11 @@ addresses_shown a = take a.count a.list
 abbrev pub ports_shown : Ports → List ℕ
 ports_shown p = take p.count p.list
 
-abbrev pub seconds_shown : Seconds → Option ℕ
-seconds_shown s = pick s.set (some s.seconds) none
+abbrev pub seconds_shown : Option ℕ → Option ℕ
+seconds_shown s = s
 
-abbrev pub retries_shown : Retries → Option ℕ
-retries_shown r = pick r.set (some r.retries) none
+abbrev pub retries_shown : Option ℕ → Option ℕ
+retries_shown r = r
 
 unfoldable pub shown : List ℕ → Config → Values
 shown b c =
@@ -84,8 +79,8 @@ shown b c =
       dbname = text_shown b c.dbname;
       options = text_shown b c.options;
       application_name = text_shown b c.application_name;
-      ssl_mode = c.ssl_mode.word;
-      ssl_negotiation = c.ssl_negotiation.word;
+      ssl_mode = c.ssl_mode;
+      ssl_negotiation = c.ssl_negotiation;
       host = hosts_shown b c.host;
       hostaddr = addresses_shown c.hostaddr;
       port = ports_shown c.port;
@@ -95,7 +90,7 @@ shown b c =
       keepalives_idle = c.keepalives_idle;
       keepalives_interval = seconds_shown c.keepalives_interval;
       keepalives_retries = retries_shown c.keepalives_retries;
-      target_session_attrs = c.target_session_attrs.word;
-      channel_binding = c.channel_binding.word;
-      load_balance_hosts = c.load_balance_hosts.word;
+      target_session_attrs = c.target_session_attrs;
+      channel_binding = c.channel_binding;
+      load_balance_hosts = c.load_balance_hosts;
     }
