@@ -21,12 +21,9 @@ use Rattle.lists.specs.declared.Host.{Host}
 use Rattle.lists.specs.declared.Hosts.{Hosts}
 use Rattle.lists.specs.declared.Addresses.{Addresses}
 use Rattle.lists.specs.declared.Ports.{Ports}
-use Rattle.lists.specs.declared.MorePorts.{MorePorts}
-use Rattle.lists.specs.declared.MoreAddresses.{MoreAddresses}
-use Rattle.lists.specs.declared.MoreHosts.{MoreHosts}
 use Rattle.lists.specs.Fault.{number_of}
 use Rattle.lists.specs.Append.{append_from, pieces_from, listed}
-use Rattle.lists.specs.Lists.{port_piece, address_piece, host_of, host_piece, ports_after, addresses_after, hosts_after, host_pushed, host_after}
+use Rattle.lists.specs.Lists.{MoreHosts, MoreAddresses, MorePorts, port_piece, address_piece, host_of, host_piece, ports_after, addresses_after, hosts_after, host_pushed, host_after}
 
 -- how many ports there are already (each 1), a value, the number that it gives, and the ports then
 abbrev ports : List (ℕ × String × ℕ × List ℕ)

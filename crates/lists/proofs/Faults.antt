@@ -4,27 +4,24 @@ use Prim.Native.Nat.{ℕ}
 use mathlib.Core.Path.{◌≡◌, refl}
 use mathlib.Core.Bool.{true, false}
 use native.Mathlib.Omega.{arith}
+use Rattle.std.specs.Prelude.{Result, Ok, Err, ⊤}
 use Rattle.lists.specs.declared.Fault.{Fault}
-use Rattle.lists.specs.Fault.{is_fine, number_of}
+use Rattle.lists.specs.Fault.{fault_number, is_fine, number_of}
 
-pub fine-none : (f : Fault) → is_fine f ≡ true → f ≡ Fault.NoFault
-fine-none Fault.NoFault e = refl
-fine-none Fault.UnknownKey e = cc
-fine-none Fault.Word e = cc
-fine-none Fault.Form e = cc
-fine-none Fault.Range e = cc
-fine-none Fault.NoAddress e = cc
-fine-none Fault.ManyHosts e = cc
-fine-none Fault.ManyHostaddrs e = cc
-fine-none Fault.ManyPorts e = cc
+pub fine-none : (r : Result ⊤ Fault) → is_fine r ≡ true → r ≡ Ok tt
+fine-none (Ok x) e = refl
+fine-none (Err f) e = cc
 
-pub fault-numbered : (f : Fault) → is_fine f ≡ false → number_of f ≡ 0 → ⊥
-fault-numbered Fault.NoFault e z = let q : ◌≡◌ {A = ℕ} 0 1 = cc in omega arith
-fault-numbered Fault.UnknownKey e z = omega arith
-fault-numbered Fault.Word e z = omega arith
-fault-numbered Fault.Form e z = omega arith
-fault-numbered Fault.Range e z = omega arith
-fault-numbered Fault.NoAddress e z = omega arith
-fault-numbered Fault.ManyHosts e z = omega arith
-fault-numbered Fault.ManyHostaddrs e z = omega arith
-fault-numbered Fault.ManyPorts e z = omega arith
+numbered : (f : Fault) → fault_number f ≡ 0 → ⊥
+numbered Fault.UnknownKey z = omega arith
+numbered Fault.Word z = omega arith
+numbered Fault.Form z = omega arith
+numbered Fault.Range z = omega arith
+numbered Fault.NoAddress z = omega arith
+numbered Fault.ManyHosts z = omega arith
+numbered Fault.ManyHostaddrs z = omega arith
+numbered Fault.ManyPorts z = omega arith
+
+pub fault-numbered : (r : Result ⊤ Fault) → is_fine r ≡ false → number_of r ≡ 0 → ⊥
+fault-numbered (Ok x) e z = let q : ◌≡◌ {A = ℕ} 0 1 = cc in omega arith
+fault-numbered (Err f) e z = numbered f z

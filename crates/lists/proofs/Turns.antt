@@ -9,16 +9,17 @@ use lib.ListN.{length, take, drop, length-take, length-drop}
 use borrow.Author.Tests.{lt-ltb, le-ltb}
 use Rattle.split.specs.Split.{first_at, split}
 use Rattle.split.proofs.Split.{split-here, split-more, split-last, first-within}
+use Rattle.std.specs.Prelude.{Ok, Err}
 use Rattle.lists.specs.declared.Fault.{Fault}
 use Rattle.lists.specs.Fault.{is_fine}
 use Rattle.lists.specs.Append.{Piece, Slots, More, more, pushed, kept, append, append_from, pieces_from, listed}
 
 -- an element where there is room, and where there is none
 module _ {A : Type 0} (full : Fault) (s : Slots A) (a : A) where
-  pub kept-room : s.count < 16 → more Fault.NoFault (pushed s a) ≡ kept full s a
+  pub kept-room : s.count < 16 → more (Ok tt) (pushed s a) ≡ kept full s a
   kept-room h = rw (lt-ltb s.count 16 h)
 
-  pub kept_full : 16 ≤ s.count → more full s ≡ kept full s a
+  pub kept_full : 16 ≤ s.count → more (Err full) s ≡ kept full s a
   kept_full h = rw (le-ltb s.count 16 h)
 
 module _ {A : Type 0} (full : Fault) (old s : Slots A) where
@@ -30,7 +31,7 @@ module _ {A : Type 0} (full : Fault) (old s : Slots A) where
   unfolding append_from
   append-stop p ps e = rw e
 
-  append-end : append_from full old s [] ≡ more Fault.NoFault s
+  append-end : append_from full old s [] ≡ more (Ok tt) s
   unfolding append_from
   append-end = refl
 
@@ -63,10 +64,10 @@ module _ {A : Type 0} (read : ℕ → List ℕ → Piece A) (full : Fault) (old 
       ∙ ap (λ (x : More A). append_from full old x.slots (pieces_from read (start + at + length (take (end - at) (drop at v)) + 1) (split 44 (drop (end + 1) v)))) (sym is)
       ∙ ap (λ (n : ℕ). append_from full old m.slots (pieces_from read n (split 44 (drop (end + 1) v)))) next)
 
-  pub turn_last : is_fine m.fault ≡ true → length v ≤ end → append_from full old s (left read start v at) ≡ more Fault.NoFault m.slots
+  pub turn_last : is_fine m.fault ≡ true → length v ≤ end → append_from full old s (left read start v at) ≡ more (Ok tt) m.slots
   unfolding left pieces_from
   turn_last e h =
-      rw (split-last 44 v at end found h) (append-on full old s _ _ (fine true e) ∙ append-end full old _ ∙ ap (λ (x : More A). more Fault.NoFault x.slots) (sym is))
+      rw (split-last 44 v at end found h) (append-on full old s _ _ (fine true e) ∙ append-end full old _ ∙ ap (λ (x : More A). more (Ok tt) x.slots) (sym is))
 
   pub turn-stop : is_fine m.fault ≡ false → append_from full old s (left read start v at) ≡ more m.fault old
   unfolding left pieces_from

@@ -1,6 +1,6 @@
 -- Hosts, addresses and ports: what a piece of each stands for, and the lists after a value's pieces.
 -- Assumes nothing.
-use Rattle.std.specs.Prelude.{ℕ, List, eqb, length, get_or}
+use Rattle.std.specs.Prelude.{ℕ, List, eqb, length, get_or, Result, Ok, Err, ⊤}
 use Rattle.byte.specs.Byte.{pick}
 use Rattle.number.specs.declared.Number.{Number}
 use Rattle.integer.specs.declared.Number16.{Number16}
@@ -15,9 +15,6 @@ use Rattle.lists.specs.declared.Host.{Host}
 use Rattle.lists.specs.declared.Hosts.{Hosts}
 use Rattle.lists.specs.declared.Addresses.{Addresses}
 use Rattle.lists.specs.declared.Ports.{Ports}
-use Rattle.lists.specs.declared.MoreHosts.{MoreHosts}
-use Rattle.lists.specs.declared.MoreAddresses.{MoreAddresses}
-use Rattle.lists.specs.declared.MorePorts.{MorePorts}
 use Rattle.lists.specs.Append.{Piece, good, bad, Slots, More, kept, append, append_all, listed}
 
 -- "port is 0 to 65,535"; "An empty port piece is 5432."
@@ -47,6 +44,30 @@ host_of first start len =
 
 unfoldable pub host_piece : ℕ → List ℕ → Piece Host
 host_piece start v = good (host_of (get_or v 0 0) start (length v))
+
+-- a list after something was to be appended: whether that is refused, and the list then, which a refusal leaves as it was
+pub record MorePorts : Type 0 where
+  pub fault : Result ⊤ Fault
+  pub ports : Ports
+
+pub record MoreAddresses : Type 0 where
+  pub fault : Result ⊤ Fault
+  pub addresses : Addresses
+
+pub record MoreHosts : Type 0 where
+  pub fault : Result ⊤ Fault
+  pub hosts : Hosts
+
+-- the list, or why it is refused
+abbrev or_fault : {A : Type 0} → Result ⊤ Fault → A → Result A Fault
+or_fault (Ok x) a = Ok a
+or_fault (Err f) a = Err f
+
+abbrev pub ports_or_fault : MorePorts → Result Ports Fault
+ports_or_fault m = or_fault m.fault m.ports
+
+abbrev pub addresses_or_fault : MoreAddresses → Result Addresses Fault
+addresses_or_fault m = or_fault m.fault m.addresses
 
 -- the lists as places of any type, and back
 abbrev pub port_slots : Ports → Slots ℕ

@@ -1,16 +1,16 @@
 // The three lists of a record, hosts, addresses and ports: sixteen places each, of which a count says how many are used.
 #![tactic(auto)]
 
-ghost use Rattle.std.specs.Prelude.{◌≡◌};
-ghost use Rattle.lists.specs.Fault.{is_fine, number_of, key_of};
-ghost use Rattle.lists.specs.Lists.{port_kept, address_kept};
+ghost use Rattle.std.specs.Prelude.{◌≡◌, length};
+ghost use Rattle.lists.specs.Fault.{fault_number, number_of, key_of};
+ghost use Rattle.lists.specs.Append.{slots, kept};
+ghost use Rattle.lists.specs.Lists.{port_kept, ports_or_fault, address_kept, addresses_or_fault};
 
 use address::Address;
 
-// Why a setting is refused, or that it is not.
-#[derive(Clone, Copy)]
+// Why a setting is refused.
+#[derive(Clone, Copy, Debug, PartialEq, Eq, Hash)]
 pub enum Fault {
-    NoFault,
     UnknownKey,
     Word,
     Form,
@@ -22,23 +22,24 @@ pub enum Fault {
 }
 
 // A part of the decode buffer.
-#[derive(Clone, Copy)]
+#[derive(Clone, Copy, Debug, PartialEq, Eq, Hash)]
 pub struct Place {
     pub start: usize,
     pub len: usize,
 }
 
-#[derive(Clone, Copy)]
+#[derive(Clone, Copy, Debug, PartialEq, Eq, Hash)]
 pub enum HostKind {
     Tcp(Place),
     Unix(Place),
 }
 
-#[derive(Clone, Copy)]
+#[derive(Clone, Copy, Debug, PartialEq, Eq, Hash)]
 pub struct Host {
     pub kind: HostKind,
 }
 
+// The lists stay three structs of arrays: a generic struct may hold no array of a type parameter.
 #[derive(Clone, Copy)]
 pub struct Hosts {
     pub list: [Host; 16],
@@ -57,101 +58,75 @@ pub struct Ports {
     pub count: usize,
 }
 
-// A list with more in it; or, with a fault, the list as it was.
-#[derive(Clone, Copy)]
-pub struct MoreHosts {
-    pub fault: Fault,
-    pub hosts: Hosts,
-}
-
-#[derive(Clone, Copy)]
-pub struct MoreAddresses {
-    pub fault: Fault,
-    pub addresses: Addresses,
-}
-
-#[derive(Clone, Copy)]
-pub struct MorePorts {
-    pub fault: Fault,
-    pub ports: Ports,
-}
-
-pub fn is_fine(f: Fault) -> bool
-    ensures { result ≡ is_fine f }
-{
-    match f {
-        Fault::NoFault => true,
-        Fault::UnknownKey => false,
-        Fault::Word => false,
-        Fault::Form => false,
-        Fault::Range => false,
-        Fault::NoAddress => false,
-        Fault::ManyHosts => false,
-        Fault::ManyHostaddrs => false,
-        Fault::ManyPorts => false,
+impl Fault {
+    // The number that a refusal hands back.
+    pub fn number(self) -> usize
+        ensures { result ≡ fault_number self }
+    {
+        match self {
+            Fault::UnknownKey => 4,
+            Fault::Word | Fault::Form | Fault::Range | Fault::NoAddress => 5,
+            Fault::ManyHosts => 13,
+            Fault::ManyHostaddrs => 14,
+            Fault::ManyPorts => 15,
+        }
     }
 }
 
-// The number that a refusal hands back; 0 for none.
-pub fn number_of(f: Fault) -> usize
-    ensures { result ≡ number_of f }
+// The number that a setting's verdict hands back; 0 where it is not refused.
+pub fn number_of(verdict: Result<(), Fault>) -> usize
+    ensures { result ≡ number_of verdict }
 {
-    match f {
-        Fault::NoFault => 0,
-        Fault::UnknownKey => 4,
-        Fault::Word => 5,
-        Fault::Form => 5,
-        Fault::Range => 5,
-        Fault::NoAddress => 5,
-        Fault::ManyHosts => 13,
-        Fault::ManyHostaddrs => 14,
-        Fault::ManyPorts => 15,
+    match verdict {
+        Ok(()) => 0,
+        Err(fault) => fault.number(),
     }
 }
 
 // The key that a refusal names: the setting's where the number is 5, else 0.
-pub fn key_of(f: Fault, key: usize) -> usize
-    ensures { result ≡ key_of f key }
+pub fn key_of(verdict: Result<(), Fault>, key: usize) -> usize
+    ensures { result ≡ key_of verdict key }
 {
-    if number_of(f) == 5 { key } else { 0 }
+    if number_of(verdict) == 5 { key } else { 0 }
+}
+
+// One entry more in a list of which `count` are used, where there is room; else the fault `full`.
+pub fn keep<T: Copy>(
+    list: &mut [T; 16],
+    count: &mut usize,
+    entry: T,
+    full: Fault,
+) -> Result<(), Fault>
+    ensures value { result ≡ (kept full (slots list.old count.old) entry).fault }
+    ensures list_after { slots list.new count.new ≡ (kept full (slots list.old count.old) entry).slots }
+{
+    if 16 <= *count {
+        return Err(full);
+    }
+    list[*count] = entry;
+    *count += 1;
+    Ok(())
 }
 
 // One port more, where there is room.
-pub fn keep_port(p: Ports, port: u16) -> MorePorts
-    ensures { result ≡ port_kept p port }
+pub fn keep_port(p: Ports, port: u16) -> Result<Ports, Fault>
+    ensures { result ≡ ports_or_fault (port_kept p port) }
 {
     let mut next = p;
-    let at = next.count;
-    if 16 <= at {
-        return MorePorts {
-            fault: Fault::ManyPorts,
-            ports: next,
-        };
-    }
-    next.list[at] = port;
-    next.count = at + 1;
-    MorePorts {
-        fault: Fault::NoFault,
-        ports: next,
-    }
+    keep(&mut next.list, &mut next.count, port, Fault::ManyPorts)?;
+    Ok(next)
 }
 
 // One address more, where there is room.
-pub fn keep_address(a: Addresses, address: Address) -> MoreAddresses
-    ensures { result ≡ address_kept a address }
+pub fn keep_address(a: Addresses, address: Address) -> Result<Addresses, Fault>
+    ensures { result ≡ addresses_or_fault (address_kept a address) }
 {
     let mut next = a;
-    let at = next.count;
-    if 16 <= at {
-        return MoreAddresses {
-            fault: Fault::ManyHostaddrs,
-            addresses: next,
-        };
-    }
-    next.list[at] = address;
-    next.count = at + 1;
-    MoreAddresses {
-        fault: Fault::NoFault,
-        addresses: next,
-    }
+    keep(
+        &mut next.list,
+        &mut next.count,
+        address,
+        Fault::ManyHostaddrs,
+    )?;
+    Ok(next)
 }

@@ -1,13 +1,13 @@
-use Rattle.byte.proofs.Tests.{tests}
+use Rattle.std.proofs.Common.{rules}
 use Rattle.lists.specs.Lists.{address_kept}
 use Rattle.lists.proofs.keep_address.Goals as goal
 
-pub returns-then-at-ge16 : goal.returns-then-at-ge16
+pub returns-in_err-keep : goal.returns-in_err-keep
 unfolding address_kept
-returns-then-at-ge16 c =
-    search tests
+returns-in_err-keep c =
+    search rules
 
 pub returns : goal.returns
 unfolding address_kept
 returns c =
-    search tests
+    search rules

@@ -1,13 +1,13 @@
-use Rattle.byte.proofs.Tests.{tests}
+use Rattle.std.proofs.Common.{rules}
 use Rattle.lists.specs.Lists.{port_kept}
 use Rattle.lists.proofs.keep_port.Goals as goal
 
-pub returns-then-at-ge16 : goal.returns-then-at-ge16
+pub returns-in_err-keep : goal.returns-in_err-keep
 unfolding port_kept
-returns-then-at-ge16 c =
-    search tests
+returns-in_err-keep c =
+    search rules
 
 pub returns : goal.returns
 unfolding port_kept
 returns c =
-    search tests
+    search rules
