@@ -3,9 +3,9 @@
 use mathlib.Core.Path.{◌≡◌, refl}
 use mathlib.Core.Bool.{Bool, true, false}
 use mathlib.Core.List.{List, [], ◌∷◌, map}
-use mathlib.Core.Option.{Option, some, none}
 use Prim.Native.Nat.{ℕ}
 use Prim.Native.String.{String}
+use Rattle.std.specs.Prelude.{Option, Some, None}
 use Rattle.byte.specs.Ascii.{bytes}
 use Rattle.byte.specs.Byte.{pick, between}
 use Rattle.byte.specs.Digit.{digit_of}
@@ -18,10 +18,10 @@ use Rattle.number.specs.Number.{digits_in, unsigned_of}
 use Rattle.integer.specs.Integer.{signed_of}
 use Rattle.ipv4.specs.V4 as ipv4
 use Rattle.address.specs.Address as address
+use Rattle.lists.specs.declared.Place.{Place}
 use Rattle.lists.specs.Fault.{is_fine, number_of, key_of}
 use Rattle.lists.specs.Append.{append_from, pieces_from, listed}
 use Rattle.lists.specs.Lists.{port_piece, address_piece, host_of, host_piece, ports_after, addresses_after, hosts_after}
-use Rattle.config.specs.declared.Text.{Text}
 use Rattle.config.specs.declared.SslMode.{SslMode}
 use Rattle.config.specs.declared.SslNegotiation.{SslNegotiation}
 use Rattle.config.specs.declared.TargetSessionAttrs.{TargetSessionAttrs}
@@ -55,34 +55,34 @@ abbrev numbers : Config → Numbers
 numbers c =
     seconds_shown c.connect_timeout
     ∷ seconds_shown c.tcp_user_timeout
-    ∷ some (flag c.keepalives)
-    ∷ some c.keepalives_idle
+    ∷ Some (flag c.keepalives)
+    ∷ Some c.keepalives_idle
     ∷ seconds_shown c.keepalives_interval
     ∷ retries_shown c.keepalives_retries
     ∷ []
 
 abbrev as_default : Numbers
-as_default = none ∷ none ∷ some 1 ∷ some 7200 ∷ none ∷ none ∷ []
+as_default = None ∷ None ∷ Some 1 ∷ Some 7200 ∷ None ∷ None ∷ []
 
 abbrev number_table : List (Settings × ℕ × ℕ × Numbers)
 number_table =
     ([], 0, 0, as_default)
-    ∷ (("connect_timeout", "5") ∷ ("connect_timeout", "0") ∷ [], 0, 0, some 5 ∷ none ∷ some 1 ∷ some 7200 ∷ none ∷ none ∷ [])
+    ∷ (("connect_timeout", "5") ∷ ("connect_timeout", "0") ∷ [], 0, 0, Some 5 ∷ None ∷ Some 1 ∷ Some 7200 ∷ None ∷ None ∷ [])
     ∷ (("connect_timeout", "-5") ∷ [], 0, 0, as_default)
-    ∷ (("connect_timeout", "9223372036854775807") ∷ [], 0, 0, some 9223372036854775807 ∷ none ∷ some 1 ∷ some 7200 ∷ none ∷ none ∷ [])
+    ∷ (("connect_timeout", "9223372036854775807") ∷ [], 0, 0, Some 9223372036854775807 ∷ None ∷ Some 1 ∷ Some 7200 ∷ None ∷ None ∷ [])
     ∷ (("connect_timeout", "9223372036854775808") ∷ [], 5, 11, as_default)
-    ∷ (("tcp_user_timeout", "+7") ∷ [], 0, 0, none ∷ some 7 ∷ some 1 ∷ some 7200 ∷ none ∷ none ∷ [])
+    ∷ (("tcp_user_timeout", "+7") ∷ [], 0, 0, None ∷ Some 7 ∷ Some 1 ∷ Some 7200 ∷ None ∷ None ∷ [])
     ∷ (("tcp_user_timeout", "-9223372036854775808") ∷ [], 0, 0, as_default)
     ∷ (("tcp_user_timeout", "-9223372036854775809") ∷ [], 5, 12, as_default)
     ∷ (("keepalives", "-1") ∷ [], 5, 13, as_default)
-    ∷ (("keepalives", "0") ∷ [], 0, 0, none ∷ none ∷ some 0 ∷ some 7200 ∷ none ∷ none ∷ [])
+    ∷ (("keepalives", "0") ∷ [], 0, 0, None ∷ None ∷ Some 0 ∷ Some 7200 ∷ None ∷ None ∷ [])
     ∷ (("keepalives", "0") ∷ ("keepalives", "18446744073709551615") ∷ [], 0, 0, as_default)
     ∷ (("keepalives", "18446744073709551616") ∷ [], 5, 13, as_default)
-    ∷ (("keepalives_idle", "60") ∷ ("keepalives_idle", "-0") ∷ [], 0, 0, none ∷ none ∷ some 1 ∷ some 60 ∷ none ∷ none ∷ [])
-    ∷ (("keepalives_interval", "00060") ∷ [], 0, 0, none ∷ none ∷ some 1 ∷ some 7200 ∷ some 60 ∷ none ∷ [])
+    ∷ (("keepalives_idle", "60") ∷ ("keepalives_idle", "-0") ∷ [], 0, 0, None ∷ None ∷ Some 1 ∷ Some 60 ∷ None ∷ None ∷ [])
+    ∷ (("keepalives_interval", "00060") ∷ [], 0, 0, None ∷ None ∷ Some 1 ∷ Some 7200 ∷ Some 60 ∷ None ∷ [])
     ∷ (("keepalives_interval", "") ∷ [], 5, 15, as_default)
-    ∷ (("keepalives_retries", "0") ∷ [], 0, 0, none ∷ none ∷ some 1 ∷ some 7200 ∷ none ∷ some 0 ∷ [])
-    ∷ (("keepalives_retries", "4294967295") ∷ [], 0, 0, none ∷ none ∷ some 1 ∷ some 7200 ∷ none ∷ some 4294967295 ∷ [])
+    ∷ (("keepalives_retries", "0") ∷ [], 0, 0, None ∷ None ∷ Some 1 ∷ Some 7200 ∷ None ∷ Some 0 ∷ [])
+    ∷ (("keepalives_retries", "4294967295") ∷ [], 0, 0, None ∷ None ∷ Some 1 ∷ Some 7200 ∷ None ∷ Some 4294967295 ∷ [])
     ∷ (("keepalives_retries", "4294967296") ∷ [], 5, 16, as_default)
     ∷ (("Keepalives", "0") ∷ [], 4, 0, as_default)
     ∷ (("", "0") ∷ [], 4, 0, as_default)
@@ -93,7 +93,7 @@ Words = SslMode × SslNegotiation × TargetSessionAttrs × ChannelBinding × Loa
 
 abbrev words : Config → Words
 words c =
-    (c.ssl_mode.word, c.ssl_negotiation.word, c.target_session_attrs.word, c.channel_binding.word, c.load_balance_hosts.word)
+    (c.ssl_mode, c.ssl_negotiation, c.target_session_attrs, c.channel_binding, c.load_balance_hosts)
 
 abbrev word_table : List (Settings × ℕ × ℕ × Words)
 word_table = (
@@ -128,8 +128,9 @@ word_table = (
     ∷ []
 
 -- how long each of the five texts is, and the ports
-abbrev long : Text → Option ℕ
-long t = pick t.set (some t.place.len) none
+abbrev long : Option Place → Option ℕ
+long (Some p) = Some p.len
+long None = None
 
 abbrev texts : Config → Numbers
 texts c = long c.user ∷ long c.password ∷ long c.dbname ∷ long c.options ∷ long c.application_name ∷ []
@@ -139,14 +140,14 @@ texts_and_ports c = (texts c, ports_shown c.port)
 
 abbrev text_table : List (Settings × ℕ × ℕ × Numbers × List ℕ)
 text_table =
-    (("user", "") ∷ ("password", "a b") ∷ ("port", "6000,") ∷ [], 0, 0, some 0 ∷ some 3 ∷ none ∷ none ∷ none ∷ [], 6000 ∷ 5432 ∷ [])
-    ∷ (("dbname", "abc") ∷ ("options", "-c") ∷ ("application_name", "x") ∷ ("dbname", "d") ∷ [], 0, 0, none ∷ none ∷ some 1 ∷ some 2 ∷ some 1 ∷ [], [])
-    ∷ (("port", "65535") ∷ ("port", "65536") ∷ [], 5, 10, none ∷ none ∷ none ∷ none ∷ none ∷ [], 65535 ∷ [])
-    ∷ (("port", "7,x") ∷ [], 5, 10, none ∷ none ∷ none ∷ none ∷ none ∷ [], [])
-    ∷ (("port", "1,2,3,4,5,6,7,8,9,10,11,12,13,14,15,16,17") ∷ [], 15, 0, none ∷ none ∷ none ∷ none ∷ none ∷ [], [])
-    ∷ (("hostaddr", "::1,01.2.3.4") ∷ [], 5, 9, none ∷ none ∷ none ∷ none ∷ none ∷ [], [])
-    ∷ (("host", ",,,,,,,,,,,,,,,") ∷ ("host", "[x") ∷ [], 13, 0, none ∷ none ∷ none ∷ none ∷ none ∷ [], [])
-    ∷ (("username", "a") ∷ ("user", "a") ∷ [], 4, 0, none ∷ none ∷ none ∷ none ∷ none ∷ [], [])
+    (("user", "") ∷ ("password", "a b") ∷ ("port", "6000,") ∷ [], 0, 0, Some 0 ∷ Some 3 ∷ None ∷ None ∷ None ∷ [], 6000 ∷ 5432 ∷ [])
+    ∷ (("dbname", "abc") ∷ ("options", "-c") ∷ ("application_name", "x") ∷ ("dbname", "d") ∷ [], 0, 0, None ∷ None ∷ Some 1 ∷ Some 2 ∷ Some 1 ∷ [], [])
+    ∷ (("port", "65535") ∷ ("port", "65536") ∷ [], 5, 10, None ∷ None ∷ None ∷ None ∷ None ∷ [], 65535 ∷ [])
+    ∷ (("port", "7,x") ∷ [], 5, 10, None ∷ None ∷ None ∷ None ∷ None ∷ [], [])
+    ∷ (("port", "1,2,3,4,5,6,7,8,9,10,11,12,13,14,15,16,17") ∷ [], 15, 0, None ∷ None ∷ None ∷ None ∷ None ∷ [], [])
+    ∷ (("hostaddr", "::1,01.2.3.4") ∷ [], 5, 9, None ∷ None ∷ None ∷ None ∷ None ∷ [], [])
+    ∷ (("host", ",,,,,,,,,,,,,,,") ∷ ("host", "[x") ∷ [], 13, 0, None ∷ None ∷ None ∷ None ∷ None ∷ [], [])
+    ∷ (("username", "a") ∷ ("user", "a") ∷ [], 4, 0, None ∷ None ∷ None ∷ None ∷ None ∷ [], [])
     ∷ []
 
 -- what a row says, and what the definitions do

@@ -7,19 +7,19 @@ use mathlib.Core.Bool.{true, false}
 use mathlib.Core.List.{List}
 use native.Mathlib.Omega.{arith}
 use lib.ListN.{get_or-eq_default}
+use Rattle.std.specs.Prelude.{Ok, Err}
 use Rattle.lists.specs.declared.Fault.{Fault}
 use Rattle.lists.specs.Fault.{is_fine}
 use Rattle.lists.proofs.Faults.{fine-none}
 use Rattle.config.specs.declared.Config.{Config}
-use Rattle.apply.specs.declared.Applied.{Applied}
-use Rattle.apply.specs.Apply.{faults, fault_of, after, applied}
+use Rattle.apply.specs.Apply.{Applied, faults, fault_of, after, applied}
 
 module _ (kind : ℕ) (v : List ℕ) (start : ℕ) (c : Config) where
   pub applied-fault : (applied kind v start c).fault ≡ fault_of kind v start c
   unfolding applied
   applied-fault = refl
 
-  pub applied-fine : is_fine (fault_of kind v start c) ≡ true → applied kind v start c ≡ record { fault = Fault.NoFault; config = after kind v start c }
+  pub applied-fine : is_fine (fault_of kind v start c) ≡ true → applied kind v start c ≡ record { fault = Ok tt; config = after kind v start c }
   unfolding applied
   applied-fine e = rw (fine-none (fault_of kind v start c) e)
 
@@ -29,12 +29,12 @@ module _ (kind : ℕ) (v : List ℕ) (start : ℕ) (c : Config) where
   applied-refused e = rw e
 
 -- 4 "unknown key": neither a key's number nor that of one host
-unlisted : (kind : ℕ) (v : List ℕ) (start : ℕ) (c : Config) → (1 ≤ kind → 21 ≤ kind) → fault_of kind v start c ≡ Fault.UnknownKey
+unlisted : (kind : ℕ) (v : List ℕ) (start : ℕ) (c : Config) → (1 ≤ kind → 21 ≤ kind) → fault_of kind v start c ≡ Err Fault.UnknownKey
 unfolding fault_of
 unlisted zero v start c h = refl
-unlisted (suc k) v start c h = get_or-eq_default (faults v start c) Fault.UnknownKey {n = suc k} (h (omega arith))
+unlisted (suc k) v start c h = get_or-eq_default (faults v start c) (Err Fault.UnknownKey) {n = suc k} (h (omega arith))
 
-pub unknown : (kind : ℕ) (v : List ℕ) (start : ℕ) (c : Config) → (1 ≤ kind → 21 ≤ kind) → ◌≡◌ {A = Applied} (record { fault = Fault.UnknownKey; config = c }) (applied kind v start c)
+pub unknown : (kind : ℕ) (v : List ℕ) (start : ℕ) (c : Config) → (1 ≤ kind → 21 ≤ kind) → ◌≡◌ {A = Applied} (record { fault = Err Fault.UnknownKey; config = c }) (applied kind v start c)
 unfolding applied
 unknown kind v start c h = rw (unlisted kind v start c h)
 

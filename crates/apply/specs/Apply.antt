@@ -1,29 +1,31 @@
 -- One setting applied to a record: its kind (1 to 19 its key, 20 one host from a URI), its value, and the place of the buffer from which the value stands.
 -- Assumes nothing.
-use Rattle.std.specs.Prelude.{ℕ, ◌-◌, ◌^◌, Bool, true, List, [], ◌∷◌, eqb, ltb, ℤ, pos, negsuc, length, get_or}
+use Rattle.std.specs.Prelude.{ℕ, ◌-◌, ◌^◌, Bool, List, [], ◌∷◌, eqb, ltb, ℤ, pos, negsuc, length, get_or, Option, Some, Result, Ok, Err, ⊤}
 use Rattle.byte.specs.Byte.{pick}
 use Rattle.names.specs.Find.{word_number}
 use Rattle.number.specs.declared.Number.{Number}
 use Rattle.integer.specs.declared.Signed.{Signed}
 use Rattle.number.specs.Number.{unsigned_of}
 use Rattle.integer.specs.Integer.{signed_of}
+use Rattle.lists.specs.declared.Place.{Place}
 use Rattle.lists.specs.declared.Fault.{Fault}
 use Rattle.lists.specs.Fault.{is_fine}
 use Rattle.lists.specs.Lists.{host_after, hosts_after, addresses_after, ports_after}
-use Rattle.config.specs.declared.Text.{Text}
-use Rattle.config.specs.declared.Seconds.{Seconds}
-use Rattle.config.specs.declared.Retries.{Retries}
 use Rattle.config.specs.declared.SslMode.{SslMode}
 use Rattle.config.specs.declared.SslNegotiation.{SslNegotiation}
 use Rattle.config.specs.declared.TargetSessionAttrs.{TargetSessionAttrs}
 use Rattle.config.specs.declared.ChannelBinding.{ChannelBinding}
 use Rattle.config.specs.declared.LoadBalanceHosts.{LoadBalanceHosts}
 use Rattle.config.specs.declared.Config.{Config}
-use Rattle.apply.specs.declared.Applied.{Applied}
+
+-- whether a setting is refused, and the record after it
+pub record Applied : Type 0 where
+  pub fault : Result ⊤ Fault
+  pub config : Config
 
 -- a text that is set, where it stands
-abbrev pub text : ℕ → List ℕ → Text
-text start v = record { set = true; place = record { start = start; len = length v } }
+abbrev pub text : ℕ → List ℕ → Option Place
+text start v = Some (record { start = start; len = length v })
 
 -- the words of each key, by the number that `word_number` gives: "sslmode (disable, prefer, require), sslnegotiation (postgres, direct)"
 abbrev pub ssl_mode_of : ℕ → SslMode
@@ -44,13 +46,13 @@ abbrev pub load_balance_hosts_of : ℕ → LoadBalanceHosts
 load_balance_hosts_of n = pick (eqb n 1) LoadBalanceHosts.Disable LoadBalanceHosts.Random
 
 -- a word is refused where the key has no such word
-abbrev pub word_fault : ℕ → Fault
-word_fault n = pick (eqb n 0) Fault.Word Fault.NoFault
+abbrev pub word_fault : ℕ → Result ⊤ Fault
+word_fault n = pick (eqb n 0) (Err Fault.Word) (Ok tt)
 
-abbrev pub number_fault : Number → Fault
-number_fault (Number.Is n) = Fault.NoFault
-number_fault Number.Form = Fault.Form
-number_fault Number.Range = Fault.Range
+abbrev pub number_fault : Number → Result ⊤ Fault
+number_fault (Number.Is n) = Ok tt
+number_fault Number.Form = Err Fault.Form
+number_fault Number.Range = Err Fault.Range
 
 -- "The two timeouts, idle and interval are signed 64-bit": their seconds, 0 for zero or below
 abbrev pub seconds_of : ℤ → ℕ
@@ -66,10 +68,10 @@ unfoldable pub seconds_in : List ℕ → Number
 seconds_in v = seconds_read (signed_of v)
 
 -- "a timeout of zero or below is accepted and leaves the field as it stands, and so with idle and interval"
-abbrev pub time_of : Seconds → ℕ → Seconds
-time_of old n = pick (eqb n 0) old (record { set = true; seconds = n })
+abbrev pub time_of : Option ℕ → ℕ → Option ℕ
+time_of old n = pick (eqb n 0) old (Some n)
 
-abbrev pub time_after : Seconds → Number → Seconds
+abbrev pub time_after : Option ℕ → Number → Option ℕ
 time_after old (Number.Is n) = time_of old n
 time_after old Number.Form = old
 time_after old Number.Range = old
@@ -85,20 +87,20 @@ keepalives_after old (Number.Is n) = ltb 0 n
 keepalives_after old Number.Form = old
 keepalives_after old Number.Range = old
 
-abbrev pub retries_after : Retries → Number → Retries
-retries_after old (Number.Is n) = record { set = true; retries = n }
+abbrev pub retries_after : Option ℕ → Number → Option ℕ
+retries_after old (Number.Is n) = Some n
 retries_after old Number.Form = old
 retries_after old Number.Range = old
 
 -- why a setting is refused, or that it is not: an entry for each kind
-abbrev pub faults : List ℕ → ℕ → Config → List Fault
+abbrev pub faults : List ℕ → ℕ → Config → List (Result ⊤ Fault)
 faults v start c =
-    Fault.UnknownKey ∷
-    Fault.NoFault ∷
-    Fault.NoFault ∷
-    Fault.NoFault ∷
-    Fault.NoFault ∷
-    Fault.NoFault ∷
+    Err Fault.UnknownKey ∷
+    Ok tt ∷
+    Ok tt ∷
+    Ok tt ∷
+    Ok tt ∷
+    Ok tt ∷
     word_fault (word_number 6 v) ∷
     word_fault (word_number 7 v) ∷
     (hosts_after c.host start v).fault ∷
@@ -116,8 +118,8 @@ faults v start c =
     (host_after c.host start v).fault ∷
     []
 
-unfoldable pub fault_of : ℕ → List ℕ → ℕ → Config → Fault
-fault_of kind v start c = get_or (faults v start c) kind Fault.UnknownKey
+unfoldable pub fault_of : ℕ → List ℕ → ℕ → Config → Result ⊤ Fault
+fault_of kind v start c = get_or (faults v start c) kind (Err Fault.UnknownKey)
 
 -- the record after a setting that is not refused: each field, and the kind that changes it. "A repeated key replaces; host, hostaddr and port append."
 unfoldable pub after : ℕ → List ℕ → ℕ → Config → Config
@@ -128,8 +130,8 @@ after kind v start c =
       dbname = pick (eqb kind 3) (text start v) c.dbname;
       options = pick (eqb kind 4) (text start v) c.options;
       application_name = pick (eqb kind 5) (text start v) c.application_name;
-      ssl_mode = pick (eqb kind 6) (record { word = ssl_mode_of (word_number 6 v) }) c.ssl_mode;
-      ssl_negotiation = pick (eqb kind 7) (record { word = ssl_negotiation_of (word_number 7 v) }) c.ssl_negotiation;
+      ssl_mode = pick (eqb kind 6) (ssl_mode_of (word_number 6 v)) c.ssl_mode;
+      ssl_negotiation = pick (eqb kind 7) (ssl_negotiation_of (word_number 7 v)) c.ssl_negotiation;
       host = pick (eqb kind 8) (hosts_after c.host start v).hosts (pick (eqb kind 20) (host_after c.host start v).hosts c.host);
       hostaddr = pick (eqb kind 9) (addresses_after c.hostaddr v).addresses c.hostaddr;
       port = pick (eqb kind 10) (ports_after c.port v).ports c.port;
@@ -139,9 +141,9 @@ after kind v start c =
       keepalives_idle = pick (eqb kind 14) (idle_after c.keepalives_idle (seconds_in v)) c.keepalives_idle;
       keepalives_interval = pick (eqb kind 15) (time_after c.keepalives_interval (seconds_in v)) c.keepalives_interval;
       keepalives_retries = pick (eqb kind 16) (retries_after c.keepalives_retries (unsigned_of (2 ^ 32 - 1) v)) c.keepalives_retries;
-      target_session_attrs = pick (eqb kind 17) (record { word = target_session_attrs_of (word_number 17 v) }) c.target_session_attrs;
-      channel_binding = pick (eqb kind 18) (record { word = channel_binding_of (word_number 18 v) }) c.channel_binding;
-      load_balance_hosts = pick (eqb kind 19) (record { word = load_balance_hosts_of (word_number 19 v) }) c.load_balance_hosts;
+      target_session_attrs = pick (eqb kind 17) (target_session_attrs_of (word_number 17 v)) c.target_session_attrs;
+      channel_binding = pick (eqb kind 18) (channel_binding_of (word_number 18 v)) c.channel_binding;
+      load_balance_hosts = pick (eqb kind 19) (load_balance_hosts_of (word_number 19 v)) c.load_balance_hosts;
     }
 
 -- on a refusal the record that comes back is the one that went in
