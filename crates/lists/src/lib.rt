@@ -1,7 +1,7 @@
 // The three lists of a record, hosts, addresses and ports: sixteen places each, of which a count says how many are used.
 #![tactic(auto)]
 
-ghost use Rattle.std.specs.Prelude.{◌≡◌, length};
+ghost use Rattle.std.specs.Prelude.{◌≡◌, length, take};
 ghost use Rattle.lists.specs.Fault.{fault_number, number_of, key_of};
 ghost use Rattle.lists.specs.Append.{slots, kept};
 ghost use Rattle.lists.specs.Lists.{port_kept, ports_or_fault, address_kept, addresses_or_fault};
@@ -129,4 +129,11 @@ pub fn keep_address(a: Addresses, address: Address) -> Result<Addresses, Fault>
         Fault::ManyHostaddrs,
     )?;
     Ok(next)
+}
+
+// The counted entries of a list; all of its entries where more are counted.
+pub fn used<T>(list: &[T], count: usize) -> &[T]
+    ensures { result.now ≡ take count list.now }
+{
+    &list[..count.min(list.len())]
 }

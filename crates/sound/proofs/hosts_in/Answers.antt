@@ -1,30 +1,12 @@
-use mathlib.Core.Path.{sym, ◌∙◌}
-use native.Mathlib.Omega.{arith}
-use borrow.Author.Rules.{rules}
-use borrow.Author.Tests.{not-true, not-false}
-use Rattle.sound.proofs.Checks.{hosts-first, hosts-more, host-out, hosts-counted, hosts-ended}
+use Rattle.std.proofs.Common.{◌∙◌, cc, rules, tests}
+use Rattle.std.proofs.lemmas.Iterator.{YieldsList-from_slice}
+use Rattle.std.proofs.lemmas.Iterator.Search.{all_from_yields_List}
+use Rattle.config.specs.Sound.{kind_in, hosts_in}
+use Rattle.sound.proofs.Hosts.{all-is}
 use Rattle.sound.proofs.hosts_in.Goals as goal
 
-pub loop-i-init : goal.loop-i-init
-loop-i-init c =
-    (search rules, hosts-first c.args.n c.args.h)
-
-pub returns-then-i-ge16 : goal.returns-then-i-ge16
-returns-then-i-ge16 c =
-    let l = c.loop-i in hosts-ended _ _ l.i l.invariant.1 (omega (arith, l.invariant.0, c.if-i-ge16.true))
-
-pub returns-then-not-host_in : goal.returns-then-not-host_in
-returns-then-not-host_in c =
-    let e = c in
-    let l = e.loop-i in
-    host-out _ _ l.i _ l.invariant.1 e.loop-i-test.true (omega (arith, l.invariant.0, e.if-i-ge16.false)) (sym c.host_in.ensures ∙ not-true _ c.if-not-host_in.true-raw)
-
-pub loop-i-preserved : goal.loop-i-preserved
-loop-i-preserved c =
-    let e = c in
-    let l = e.loop-i in
-    (l.invariant.0, hosts-more _ _ l.i _ l.invariant.1 e.loop-i-test.true (omega (arith, l.invariant.0, e.if-i-ge16.false)) (sym c.host_in.ensures ∙ not-false _ c.if-not-host_in.false-raw))
-
 pub returns : goal.returns
+unfolding hosts_in
 returns c =
-    let l = c.loop-i in hosts-counted _ _ l.i l.invariant.1 c.loop-i-test.false
+    all_from_yields_List (λ h. kind_in c.args.n h.kind) _ _ _ c.all.ensures.ran (YieldsList-from_slice c.used.result.now cc) (λ x b q k. search (rules, tests))
+    ∙ rw (c.used.ensures) (all-is c.args.n _)
