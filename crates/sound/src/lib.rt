@@ -35,7 +35,9 @@ fn host_in(h: Host, n: usize) -> bool
 fn hosts_in(h: Hosts, n: usize) -> bool
     ensures { result ≡ hosts_in n h }
 {
-    lists::used(&h.list, h.count).iter().all(|host| host_in(*host, n))
+    lists::used(&h.list, h.count)
+        .iter()
+        .all(|host| host_in(*host, n))
 }
 
 // Whether no list count is above 16.

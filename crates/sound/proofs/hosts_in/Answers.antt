@@ -1,4 +1,4 @@
-use Rattle.std.proofs.Common.{◌∙◌, cc, rules, tests}
+use Rattle.std.proofs.Common.{◌∙◌, rules, tests}
 use Rattle.std.proofs.lemmas.Iterator.{YieldsList-from_slice}
 use Rattle.std.proofs.lemmas.Iterator.Search.{all_from_yields_List}
 use Rattle.config.specs.Sound.{kind_in, hosts_in}
