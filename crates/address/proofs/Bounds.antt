@@ -1,6 +1,7 @@
 -- What was read as an address has 32 bits, or twice 64.
 -- Assumes nothing.
 use Prim.Native.Nat.{ℕ, zero, suc, ◌+◌, ◌-◌, ◌/◌, ◌%◌, ◌^◌, ◌<◌, ◌≤◌}
+use Rattle.std.specs.Prelude.{Some}
 use mathlib.Core.Path.{◌≡◌}
 use mathlib.Core.Bool.{Bool}
 use mathlib.Core.List.{List, [], ◌∷◌, ◌++◌}
@@ -11,7 +12,6 @@ use Rattle.ipv4.proofs.Form.{v4-below}
 use Rattle.group_text.specs.Form.{GroupText, GroupTexts, SideText}
 use Rattle.group_text.proofs.Form.{four-digits}
 use Rattle.address.specs.declared.Address.{Address}
-use Rattle.address.specs.declared.AddressRead.{AddressRead}
 use Rattle.address.specs.Address.{quad, address_of}
 use Rattle.address.specs.Form.{V6Text, AddressText, Within}
 use Rattle.address.proofs.Form.{address-sound}
@@ -62,5 +62,5 @@ text-within : (s : List ℕ) (x : Address) → AddressText s x → Within x.kind
 text-within s x (AddressText.four-parts v k e) = rw e (v4-below s v k)
 text-within s x (AddressText.eight-groups gs k e) = rw e (quad-below gs 0 (v6-small k), quad-below gs 4 (v6-small k))
 
-pub address-within : (s : List ℕ) (x : Address) → address_of s ≡ AddressRead.Is x → Within x.kind
+pub address-within : (s : List ℕ) (x : Address) → address_of s ≡ Some x → Within x.kind
 address-within s x e = text-within s x (address-sound s x e)

@@ -1,5 +1,6 @@
 -- The examples of RFC 4291, section 2.2, and texts that are refused: what the definition says of them, by computation.
 -- Assumes nothing.
+use Rattle.std.specs.Prelude.{Option, Some, None}
 use mathlib.Core.Path.{◌≡◌, refl}
 use mathlib.Core.List.{List, [], ◌∷◌, map}
 use Prim.Native.Nat.{ℕ}
@@ -13,16 +14,16 @@ use Rattle.number.specs.Number.{digits_in}
 use Rattle.split.specs.Split.{split}
 use Rattle.ipv4.specs.V4.{part_of, parts_of, v4_of}
 use Rattle.address.specs.declared.Kind.{Kind}
-use Rattle.address.specs.declared.AddressRead.{AddressRead}
+use Rattle.address.specs.declared.Address.{Address}
 use Rattle.address.specs.Address.{group_of, groups_of, side_of, gap_at, quad, v6_of, address_of}
 
-abbrev four : ℕ → AddressRead
-four v = AddressRead.Is (record { kind = Kind.V4 v })
+abbrev four : ℕ → Option Address
+four v = Some (record { kind = Kind.V4 v })
 
-abbrev six : ℕ → ℕ → AddressRead
-six high low = AddressRead.Is (record { kind = Kind.V6 high low })
+abbrev six : ℕ → ℕ → Option Address
+six high low = Some (record { kind = Kind.V6 high low })
 
-pub table : List (String × AddressRead)
+pub table : List (String × Option Address)
 table =
     ("0.0.0.0", four 0)
     ∷ ("255.255.255.255", four 4294967295)
@@ -41,30 +42,30 @@ table =
     ∷ ("::FFFF:129.144.52.38", six 0x0 0xffff81903426)
     ∷ ("1:2:3:4:5:6:7::", six 0x1000200030004 0x5000600070000)
     ∷ ("::ffff", six 0x0 0xffff)
-    ∷ ("", AddressRead.Not)
-    ∷ ("1.2.3", AddressRead.Not)
-    ∷ ("1.2.3.4.5", AddressRead.Not)
-    ∷ ("01.2.3.4", AddressRead.Not)
-    ∷ ("1.2.3.00", AddressRead.Not)
-    ∷ ("256.1.1.1", AddressRead.Not)
-    ∷ ("1..2.3", AddressRead.Not)
-    ∷ ("1:2:3:4:5:6:7", AddressRead.Not)
-    ∷ ("1:2:3:4:5:6:7:8:9", AddressRead.Not)
-    ∷ ("1:2:3:4:5:6:7:8::", AddressRead.Not)
-    ∷ ("1:2:3:4::5:6:7:8", AddressRead.Not)
-    ∷ (":::", AddressRead.Not)
-    ∷ ("1::2::3", AddressRead.Not)
-    ∷ (":1:2:3:4:5:6:7:8", AddressRead.Not)
-    ∷ ("1:2:3:4:5:6:7:8:", AddressRead.Not)
-    ∷ ("12345::", AddressRead.Not)
-    ∷ ("::g", AddressRead.Not)
-    ∷ ("::1%eth0", AddressRead.Not)
-    ∷ ("1.2.3.4::", AddressRead.Not)
-    ∷ ("::1.2.3.4:5", AddressRead.Not)
-    ∷ ("1:2:3:4:5:6:7:1.2.3.4", AddressRead.Not)
-    ∷ ("1:2:3:4:5:6::1.2.3.4", AddressRead.Not)
+    ∷ ("", None)
+    ∷ ("1.2.3", None)
+    ∷ ("1.2.3.4.5", None)
+    ∷ ("01.2.3.4", None)
+    ∷ ("1.2.3.00", None)
+    ∷ ("256.1.1.1", None)
+    ∷ ("1..2.3", None)
+    ∷ ("1:2:3:4:5:6:7", None)
+    ∷ ("1:2:3:4:5:6:7:8:9", None)
+    ∷ ("1:2:3:4:5:6:7:8::", None)
+    ∷ ("1:2:3:4::5:6:7:8", None)
+    ∷ (":::", None)
+    ∷ ("1::2::3", None)
+    ∷ (":1:2:3:4:5:6:7:8", None)
+    ∷ ("1:2:3:4:5:6:7:8:", None)
+    ∷ ("12345::", None)
+    ∷ ("::g", None)
+    ∷ ("::1%eth0", None)
+    ∷ ("1.2.3.4::", None)
+    ∷ ("::1.2.3.4:5", None)
+    ∷ ("1:2:3:4:5:6:7:1.2.3.4", None)
+    ∷ ("1:2:3:4:5:6::1.2.3.4", None)
     ∷ []
 
-pub examples : map (λ (r : String × AddressRead). address_of (bytes r.0)) table ≡ map (λ (r : String × AddressRead). r.1) table
+pub examples : map (λ (r : String × Option Address). address_of (bytes r.0)) table ≡ map (λ (r : String × Option Address). r.1) table
 unfolding table address_of v4_of parts_of part_of v6_of gap_at side_of groups_of group_of quad split digits_in all_digits value_in value_from digit_of between same
 examples = refl

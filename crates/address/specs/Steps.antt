@@ -1,18 +1,20 @@
 -- What the code makes of groups in an array of eight.
 -- Assumes nothing.
-use Rattle.std.specs.Prelude.{◌+◌, ◌&&◌, [], eqb, leb}
-use Rattle.std.proofs.Math.Option.{some}
+use Rattle.std.specs.Prelude.{◌+◌, [], eqb, leb, Option, Some, None}
 use Rattle.byte.specs.Byte.{pick}
 use Rattle.groups.specs.declared.Groups.{Groups}
-use Rattle.groups.specs.Eight.{packed, quad_at}
+use Rattle.groups.specs.Eight.{holding, quad_at}
 use Rattle.address.specs.declared.Kind.{Kind}
-use Rattle.address.specs.declared.AddressRead.{AddressRead}
+use Rattle.address.specs.declared.Address.{Address}
 
-abbrev pub six_of : Groups → Groups → AddressRead
-six_of l r = AddressRead.Is (record { kind = Kind.V6 (quad_at l r 0) (quad_at l r 4) })
+abbrev pub six_of : Groups → Groups → Option Address
+six_of l r = Some (record { kind = Kind.V6 (quad_at l r 0) (quad_at l r 4) })
 
-unfoldable pub whole_at : Groups → AddressRead
-whole_at g = pick (g.ok && eqb g.n 8) (six_of g (packed (some []))) AddressRead.Not
+unfoldable pub whole_at : Option Groups → Option Address
+whole_at None = None
+whole_at (Some g) = pick (eqb g.n 8) (six_of g (holding [])) None
 
-unfoldable pub around_at : Groups → Groups → AddressRead
-around_at l r = pick (l.ok && r.ok && leb (l.n + r.n) 7) (six_of l r) AddressRead.Not
+unfoldable pub around_at : Option Groups → Option Groups → Option Address
+around_at None r = None
+around_at (Some l) None = None
+around_at (Some l) (Some r) = pick (leb (l.n + r.n) 7) (six_of l r) None

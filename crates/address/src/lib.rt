@@ -7,58 +7,47 @@ ghost use Rattle.address.specs.Steps.{whole_at, around_at};
 
 use groups::Groups;
 
-#[derive(Clone, Copy)]
+#[derive(Clone, Copy, Debug, PartialEq, Eq)]
 pub enum Kind {
     V4(u32),
     // The first four groups, and the last four.
     V6(u64, u64),
 }
 
-#[derive(Clone, Copy)]
+#[derive(Clone, Copy, Debug, PartialEq, Eq)]
 pub struct Address {
     pub kind: Kind,
 }
 
-#[derive(Clone, Copy)]
-pub enum AddressRead {
-    Is(Address),
-    Not,
-}
-
-fn whole(g: Groups) -> AddressRead
-    ensures { result ≡ whole_at g }
+// Eight groups, none left out.
+#[tactic(auto, unfolding(crate::specs::Steps::whole_at))]
+fn whole(groups: Option<Groups>) -> Option<Address>
+    ensures { result ≡ whole_at groups }
 {
-    if !g.ok {
-        return AddressRead::Not;
-    }
+    let g = groups?;
     if g.n != 8 {
-        return AddressRead::Not;
+        return None;
     }
     let none = groups::no_groups();
     let kind = Kind::V6(groups::quad_at(g, none, 0), groups::quad_at(g, none, 4));
-    AddressRead::Is(Address { kind: kind })
+    Some(Address { kind })
 }
 
-fn around(l: Groups, r: Groups) -> AddressRead
-    ensures { result ≡ around_at l r }
+// At most seven groups around a double colon.
+#[tactic(auto, unfolding(crate::specs::Steps::around_at))]
+fn around(left: Option<Groups>, right: Option<Groups>) -> Option<Address>
+    ensures { result ≡ around_at left right }
 {
-    if !l.ok {
-        return AddressRead::Not;
-    }
-    if !r.ok {
-        return AddressRead::Not;
-    }
-    if 7 < l.n {
-        return AddressRead::Not;
-    }
-    if 7 - l.n < r.n {
-        return AddressRead::Not;
+    let l = left?;
+    let r = right?;
+    if 7 < l.n || 7 - l.n < r.n {
+        return None;
     }
     let kind = Kind::V6(groups::quad_at(l, r, 0), groups::quad_at(l, r, 4));
-    AddressRead::Is(Address { kind: kind })
+    Some(Address { kind })
 }
 
-fn read_v6(s: &[u8]) -> AddressRead
+fn read_v6(s: &[u8]) -> Option<Address>
     ensures { result ≡ v6_of s.now }
 {
     let gap = group_text::find_gap(s);
@@ -72,15 +61,12 @@ fn read_v6(s: &[u8]) -> AddressRead
     )
 }
 
-pub fn read_address(s: &[u8]) -> AddressRead
+#[tactic(auto, unfolding(crate::specs::Address::address_of))]
+pub fn read_address(s: &[u8]) -> Option<Address>
     ensures { result ≡ address_of s.now }
 {
-    let four = ipv4::read_v4(s);
-    match four {
-        ipv4::Four::Is(v) => {
-            let kind = Kind::V4(v);
-            AddressRead::Is(Address { kind: kind })
-        }
-        ipv4::Four::Not => read_v6(s),
+    match ipv4::read_v4(s) {
+        Some(v) => Some(Address { kind: Kind::V4(v) }),
+        None => read_v6(s),
     }
 }

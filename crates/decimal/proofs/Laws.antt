@@ -12,7 +12,7 @@ use lib.ListN.{length, get_or, length-append, get_or-append}
 use borrow.Author.Tests.{lt-ltb, le-ltb, ltb-true, ltb-false}
 use Rattle.byte.specs.Byte.{pick}
 use Rattle.byte.proofs.Laws.{In}
-use Rattle.number.specs.declared.Number.{Number}
+use Rattle.std.specs.Prelude.{Ok}
 use Rattle.number.specs.Digits.{all_digits, value_in}
 use Rattle.number.specs.Number.{digits_in, unsigned_of}
 use Rattle.digits.proofs.Digits.{value-nil, value-last}
@@ -140,13 +140,13 @@ no_sign max [] f = unsigned-nothing max
 no_sign max (a ∷ l) f = unsigned-bare max l a (λ e. omega (arith, f.0.low))
 
 module _ (max n : ℕ) (small : n < 10 ^ 20) (h : n ≤ max) where
-  pub decimal-back : digits_in 10 max (decimal n) ≡ Number.Is n
+  pub decimal-back : digits_in 10 max (decimal n) ≡ Ok n
   decimal-back =
       let v : value_in 10 (decimal n) ≤ max = omega (arith, decimal-value n small) in
-      digits-is 10 max (decimal n) (decimal-some n small) (decimal-digits n small) v ∙ ap Number.Is (decimal-value n small)
+      digits-is 10 max (decimal n) (decimal-some n small) (decimal-digits n small) v ∙ ap Ok (decimal-value n small)
 
   -- also where a sign may stand
-  pub decimal-back-unsigned : unsigned_of max (decimal n) ≡ Number.Is n
+  pub decimal-back-unsigned : unsigned_of max (decimal n) ≡ Ok n
   decimal-back-unsigned = no_sign max (decimal n) (decimal-each n small) ∙ decimal-back
 
 -- so no two numbers have the same decimal

@@ -3,7 +3,7 @@
 use mathlib.Core.Path.{◌≡◌, refl, sym, ap, ◌∙◌}
 use mathlib.Core.Bool.{Bool, true, false}
 use mathlib.Core.List.{List, [], ◌∷◌, ◌++◌}
-use mathlib.Core.Option.{some}
+use Rattle.std.specs.Prelude.{Some}
 use Prim.Native.Nat.{ℕ, suc, ◌+◌, ◌<◌, ◌≤◌}
 use native.Mathlib.Numerals.{add-one}
 use native.Mathlib.Omega.{arith}
@@ -55,7 +55,7 @@ gap_within (a ∷ s) h = by (same (take 2 (a ∷ s)) colons) refl (gap_within s)
     by true e f h = let q : length (take 2 (a ∷ s)) ≡ 2 = ap length (same_true (take 2 (a ∷ s)) colons e) in omega (arith, length-take 2 (a ∷ s))
     by false e f h = omega (arith, f (omega arith))
 
-pub side-empty : (tail : Bool) (s : List ℕ) → length s ≡ 0 → side_of tail s ≡ some []
+pub side-empty : (tail : Bool) (s : List ℕ) → length s ≡ 0 → side_of tail s ≡ Some []
 unfolding side_of
 side-empty tail [] h = refl
 side-empty tail (a ∷ s) h = absurd (omega arith)

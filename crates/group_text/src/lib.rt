@@ -6,44 +6,41 @@ ghost use Rattle.split.specs.Split.{split};
 ghost use Rattle.groups.specs.Eight.{packed};
 ghost use Rattle.group_text.specs.Text.{group_of, groups_of, side_of, gap_at, pushed_last};
 
-use groups::{Group, Groups};
+use groups::Groups;
 
 // One to four hex digits.
-fn read_group(s: &[u8]) -> Group
+#[tactic(auto, unfolding(crate::specs::Text::group_of))]
+fn read_group(s: &[u8]) -> Option<u16>
     ensures { result ≡ group_of s.now }
 {
     if 4 < s.len() {
-        return Group::Not;
+        return None;
     }
-    match number::read_digits(s, number::Radix::Sixteen, 65535) {
-        number::Number::Is(n) => Group::Is(n as u16),
-        number::Number::Form => Group::Not,
-        number::Number::Range => Group::Not,
-    }
+    let n = number::read_digits(s, number::Radix::Sixteen, 65535).ok()?;
+    Some(n as u16)
 }
 
 // The last piece: a group, or an IPv4 text where one may stand, which makes two.
-fn push_last(g: Groups, p: &[u8], tail: bool) -> Groups
+fn push_last(g: Option<Groups>, p: &[u8], tail: bool) -> Option<Groups>
     ensures { result ≡ pushed_last tail g p.now }
 {
     if !tail {
         return groups::push(g, read_group(p));
     }
-    let four = ipv4::read_v4(p);
-    match four {
-        ipv4::Four::Is(v) => groups::push(
-            groups::push(g, Group::Is((v / 65536) as u16)),
-            Group::Is((v % 65536) as u16),
+    match ipv4::read_v4(p) {
+        Some(v) => groups::push(
+            groups::push(g, Some((v / 65536) as u16)),
+            Some((v % 65536) as u16),
         ),
-        ipv4::Four::Not => groups::push(g, read_group(p)),
+        None => groups::push(g, read_group(p)),
     }
 }
 
 // Groups with a colon between each two.
-pub fn read_groups(s: &[u8], tail: bool) -> Groups
+pub fn read_groups(s: &[u8], tail: bool) -> Option<Groups>
     ensures { result ≡ packed (groups_of tail (split 58 s.now)) }
 {
-    let mut g = groups::no_groups();
+    let mut g = Some(groups::no_groups());
     let mut i: usize = 0;
     let mut e = split::find(s, 0, b':');
     while e < s.len() {
@@ -55,11 +52,11 @@ pub fn read_groups(s: &[u8], tail: bool) -> Groups
 }
 
 // What stands on one side of a double colon.
-pub fn read_side(s: &[u8], tail: bool) -> Groups
+pub fn read_side(s: &[u8], tail: bool) -> Option<Groups>
     ensures { result ≡ packed (side_of tail s.now) }
 {
     if s.len() == 0 {
-        return groups::no_groups();
+        return Some(groups::no_groups());
     }
     read_groups(s, tail)
 }

@@ -3,7 +3,7 @@
 use mathlib.Core.Path.{◌≡◌, refl, sym, ap, ◌∙◌}
 use mathlib.Core.Bool.{Bool, true, false}
 use mathlib.Core.List.{List, [], ◌∷◌, ◌++◌, append_assoc, append-nil}
-use mathlib.Core.Option.{Option, none, some}
+use Rattle.std.specs.Prelude.{Option, Some, None}
 use Prim.Native.Nat.{ℕ, suc, ◌+◌, ◌-◌, ◌<◌, ◌≤◌}
 use native.Mathlib.Omega.{arith}
 use lib.Dec.{leb, ltb}
@@ -11,30 +11,29 @@ use lib.ListN.{length, get_or, set, replicate, length-append, length-replicate, 
 use lib.Seq.{set-append_seam, get_or-append-add}
 use borrow.Author.Tests.{le-leb, lt-leb, lt-ltb, le-ltb, leb-true, leb-false, ltb-true, ltb-false}
 use Rattle.byte.specs.Byte.{pick}
-use Rattle.groups.specs.declared.Group.{Group}
 use Rattle.groups.specs.declared.Groups.{Groups}
-use Rattle.groups.specs.Eight.{packed, refused, pushed, pushed_all, pushed_some, quad, group_at, quad_at}
+use Rattle.groups.specs.Eight.{holding, packed, pushed, pushed_all, pushed_some, quad, group_at, quad_at}
 
 -- groups and then a group, groups and then groups
-abbrev pub snoc : Option (List ℕ) → Group → Option (List ℕ)
-snoc (some l) (Group.Is x) = some (l ++ x ∷ [])
-snoc (some l) Group.Not = none
-snoc none x = none
+abbrev pub snoc : Option (List ℕ) → Option ℕ → Option (List ℕ)
+snoc (Some l) (Some x) = Some (l ++ x ∷ [])
+snoc (Some l) None = None
+snoc None x = None
 
 abbrev pub follow : Option (List ℕ) → Option (List ℕ) → Option (List ℕ)
-follow (some l) (some r) = some (l ++ r)
-follow (some l) none = none
-follow none r = none
+follow (Some l) (Some r) = Some (l ++ r)
+follow (Some l) None = None
+follow None r = None
 
 -- what is held of a list: itself up to eight, and nothing of a longer one
-abbrev pub held : ℕ → List ℕ → Groups
-held n l = record { ok = true; n = n; at = l }
+abbrev pub held : ℕ → List ℕ → Option Groups
+held n l = Some (record { n = n; at = l })
 
-pub packed-some : (l : List ℕ) → length l ≤ 8 → packed (some l) ≡ held (length l) (l ++ replicate (8 - length l) 0)
+pub packed-some : (l : List ℕ) → length l ≤ 8 → packed (Some l) ≡ Some (holding l)
 unfolding packed
 packed-some l h = rw (le-leb (length l) 8 h)
 
-pub packed-long : (l : List ℕ) → 8 < length l → packed (some l) ≡ refused
+pub packed-long : (l : List ℕ) → 8 < length l → packed (Some l) ≡ None
 unfolding packed
 packed-long l h = rw (lt-leb (length l) 8 h)
 
@@ -43,7 +42,7 @@ module _ (l : List ℕ) (x : ℕ) where
   longer : length (l ++ x ∷ []) ≡ length l + 1
   longer = length-append l (x ∷ [])
 
-  push-room : length l < 8 → pushed (packed (some l)) (Group.Is x) ≡ packed (some (l ++ x ∷ []))
+  push-room : length l < 8 → pushed (packed (Some l)) (Some x) ≡ packed (Some (l ++ x ∷ []))
   unfolding pushed
   push-room h =
       let k : 8 - length l ≡ suc (7 - length l) = omega arith in
@@ -53,43 +52,48 @@ module _ (l : List ℕ) (x : ℕ) where
       rw (packed-some l (omega arith), packed-some (l ++ x ∷ []) (omega (arith, longer)), lt-ltb (length l) 8 h)
       (ap (λ (n : ℕ). held n (set (l ++ replicate (8 - length l) 0) (length l) x)) (sym longer) ∙ ap (held (length (l ++ x ∷ []))) (a ∙ b))
 
-  push-full : length l ≡ 8 → pushed (packed (some l)) (Group.Is x) ≡ packed (some (l ++ x ∷ []))
+  push-full : length l ≡ 8 → pushed (packed (Some l)) (Some x) ≡ packed (Some (l ++ x ∷ []))
   unfolding pushed
   push-full h = rw (packed-some l (omega arith), packed-long (l ++ x ∷ []) (omega (arith, longer)), le-ltb (length l) 8 (omega arith))
 
-  push-long : 8 < length l → pushed (packed (some l)) (Group.Is x) ≡ packed (some (l ++ x ∷ []))
+  push-long : 8 < length l → pushed (packed (Some l)) (Some x) ≡ packed (Some (l ++ x ∷ []))
   unfolding pushed
   push-long h = rw (packed-long l h, packed-long (l ++ x ∷ []) (omega (arith, longer)))
 
-  push-some : pushed (packed (some l)) (Group.Is x) ≡ packed (some (l ++ x ∷ []))
+  push-some : pushed (packed (Some l)) (Some x) ≡ packed (Some (l ++ x ∷ []))
   push-some = by (leb (length l) 7) (leb (length l) 8) refl refl
     where
-      by : (t u : Bool) → leb (length l) 7 ≡ t → leb (length l) 8 ≡ u → pushed (packed (some l)) (Group.Is x) ≡ packed (some (l ++ x ∷ []))
+      by : (t u : Bool) → leb (length l) 7 ≡ t → leb (length l) 8 ≡ u → pushed (packed (Some l)) (Some x) ≡ packed (Some (l ++ x ∷ []))
       by true u e f = push-room (omega (arith, leb-true (length l) 7 e))
       by false true e f = push-full (omega (arith, leb-false (length l) 7 e, leb-true (length l) 8 f))
       by false false e f = push-long (leb-false (length l) 8 f)
 
-pub push-packed : (d : Option (List ℕ)) (x : Group) → pushed (packed d) x ≡ packed (snoc d x)
+pub push-none : (g : Option Groups) → pushed g None ≡ None
+unfolding pushed
+push-none None = refl
+push-none (Some g) = refl
+
+pub push-packed : (d : Option (List ℕ)) (x : Option ℕ) → pushed (packed d) x ≡ packed (snoc d x)
 unfolding packed pushed
-push-packed none Group.Not = refl
-push-packed none (Group.Is x) = refl
-push-packed (some l) Group.Not = refl
-push-packed (some l) (Group.Is x) = push-some l x
+push-packed None None = refl
+push-packed None (Some x) = refl
+push-packed (Some l) None = push-none (packed (Some l))
+push-packed (Some l) (Some x) = push-some l x
 
 -- with several
-push-all : (xs : List ℕ) (d : Option (List ℕ)) → pushed_all (packed d) xs ≡ packed (follow d (some xs))
+push-all : (xs : List ℕ) (d : Option (List ℕ)) → pushed_all (packed d) xs ≡ packed (follow d (Some xs))
 unfolding pushed_all
-push-all [] none = refl
-push-all [] (some l) = ap (λ (m : List ℕ). packed (some m)) (sym (append-nil l))
-push-all (x ∷ xs) none = rw (push-packed none (Group.Is x)) (push-all xs none)
-push-all (x ∷ xs) (some l) = rw (push-packed (some l) (Group.Is x)) (push-all xs (some (l ++ x ∷ [])) ∙ ap (λ (m : List ℕ). packed (some m)) (append_assoc l (x ∷ []) xs))
+push-all [] None = refl
+push-all [] (Some l) = ap (λ (m : List ℕ). packed (Some m)) (sym (append-nil l))
+push-all (x ∷ xs) None = rw (push-packed None (Some x)) (push-all xs None)
+push-all (x ∷ xs) (Some l) = rw (push-packed (Some l) (Some x)) (push-all xs (Some (l ++ x ∷ [])) ∙ ap (λ (m : List ℕ). packed (Some m)) (append_assoc l (x ∷ []) xs))
 
 pub push-last : (d r : Option (List ℕ)) → pushed_some (packed d) r ≡ packed (follow d r)
 unfolding packed
-push-last none none = refl
-push-last (some l) none = refl
-push-last none (some r) = push-all r none
-push-last (some l) (some r) = push-all r (some l)
+push-last None None = refl
+push-last (Some l) None = refl
+push-last None (Some r) = push-all r None
+push-last (Some l) (Some r) = push-all r (Some l)
 
 -- the group at a place of two lists that are held, and of the eight groups that they make
 abbrev pub eight : List ℕ → List ℕ → List ℕ
@@ -120,11 +124,9 @@ module _ (l r : List ℕ) (room : length l + length r ≤ 8) where
         let j : i ≡ length x + (i - (8 - length r)) = omega (arith, gap-long) in
         ap (λ (n : ℕ). get_or (x ++ r) n 0) j ∙ get_or-append-add x r (i - (8 - length r)) 0
 
-    group-held : i < 8 → group_at (packed (some l)) (packed (some r)) i ≡ get_or (eight l r) i 0
+    group-held : i < 8 → group_at (holding l) (holding r) i ≡ get_or (eight l r) i 0
     unfolding group_at
-    group-held k =
-        rw (packed-some l (omega arith), packed-some r (omega arith))
-        (by (ltb i (length l)) (ltb i (8 - length r)) refl refl)
+    group-held k = by (ltb i (length l)) (ltb i (8 - length r)) refl refl
       where
         by : (t u : Bool) → ltb i (length l) ≡ t → ltb i (8 - length r) ≡ u
             → pick t (get_or (l ++ replicate (8 - length l) 0) i 0) (pick u 0 (get_or (r ++ replicate (8 - length r) 0) (i - (8 - length r)) 0)) ≡ get_or (eight l r) i 0
@@ -136,6 +138,6 @@ module _ (l r : List ℕ) (room : length l + length r ≤ 8) where
             let h : 8 - length r ≤ i = ltb-false i (8 - length r) f in
             get_or-append r (replicate (8 - length r) 0) 0 (i - (8 - length r)) (omega arith) ∙ sym (in_right h k)
 
-  pub quad-held : (k : ℕ) → k ≤ 4 → quad_at (packed (some l)) (packed (some r)) k ≡ quad (eight l r) k
+  pub quad-held : (k : ℕ) → k ≤ 4 → quad_at (holding l) (holding r) k ≡ quad (eight l r) k
   unfolding quad_at quad
   quad-held k h = rw (group-held k (omega arith), group-held (k + 1) (omega arith), group-held (k + 2) (omega arith), group-held (k + 3) (omega arith))

@@ -1,32 +1,33 @@
 -- Groups in an array of eight, and what is held there of a list.
 -- Assumes nothing.
-use Rattle.std.specs.Prelude.{ℕ, ◌+◌, ◌-◌, ◌*◌, ◌^◌, true, false, ◌&&◌, List, [], ◌∷◌, ◌++◌, leb, ltb, length, get_or, set, replicate}
-use Rattle.std.proofs.Math.Option.{Option, none, some}
+use Rattle.std.specs.Prelude.{ℕ, ◌+◌, ◌-◌, ◌*◌, ◌^◌, List, [], ◌∷◌, ◌++◌, leb, ltb, length, get_or, set, replicate}
+use Rattle.std.specs.Prelude.{Option, Some, None}
 use Rattle.byte.specs.Byte.{pick}
-use Rattle.groups.specs.declared.Group.{Group}
 use Rattle.groups.specs.declared.Groups.{Groups}
 
-abbrev pub refused : Groups
-refused = record { ok = false; n = 0; at = replicate 8 0 }
+-- a list with zeros behind it
+abbrev pub holding : List ℕ → Groups
+holding gs = record { n = length gs; at = gs ++ replicate (8 - length gs) 0 }
 
--- a list of at most eight with zeros behind it
-unfoldable pub packed : Option (List ℕ) → Groups
-packed none = refused
-packed (some gs) = pick (leb (length gs) 8) (record { ok = true; n = length gs; at = gs ++ replicate (8 - length gs) 0 }) refused
+-- what is held of a list: one of at most eight
+unfoldable pub packed : Option (List ℕ) → Option Groups
+packed None = None
+packed (Some gs) = pick (leb (length gs) 8) (Some (holding gs)) None
 
 -- one more
-unfoldable pub pushed : Groups → Group → Groups
-pushed g Group.Not = refused
-pushed g (Group.Is x) = pick (g.ok && ltb g.n 8) (record { ok = true; n = g.n + 1; at = set g.at g.n x }) refused
+unfoldable pub pushed : Option Groups → Option ℕ → Option Groups
+pushed None x = None
+pushed (Some g) None = None
+pushed (Some g) (Some x) = pick (ltb g.n 8) (Some (record { n = g.n + 1; at = set g.at g.n x })) None
 
 -- several more
-unfoldable pub pushed_all : Groups → List ℕ → Groups
+unfoldable pub pushed_all : Option Groups → List ℕ → Option Groups
 pushed_all g [] = g
-pushed_all g (x ∷ xs) = pushed_all (pushed g (Group.Is x)) xs
+pushed_all g (x ∷ xs) = pushed_all (pushed g (Some x)) xs
 
-abbrev pub pushed_some : Groups → Option (List ℕ) → Groups
-pushed_some g none = refused
-pushed_some g (some gs) = pushed_all g gs
+abbrev pub pushed_some : Option Groups → Option (List ℕ) → Option Groups
+pushed_some g None = None
+pushed_some g (Some gs) = pushed_all g gs
 
 -- four groups from the place k on as one number, the first one weighing most
 unfoldable pub quad : List ℕ → ℕ → ℕ

@@ -2,65 +2,42 @@
 #![tactic(auto)]
 
 ghost use Rattle.std.specs.Prelude.{◌≡◌, [], ◌<◌, ◌≤◌};
-ghost use Rattle.std.proofs.Math.Option.{none, some};
-ghost use Rattle.groups.specs.Eight.{packed, pushed, group_at, quad_at};
+ghost use Rattle.groups.specs.Eight.{holding, pushed, group_at, quad_at};
 
-// A group of an IPv6 address.
-#[derive(Clone, Copy)]
-pub enum Group {
-    Is(u16),
-    Not,
-}
-
-// Up to eight groups, zeros behind them; or none at all where the text was refused.
-#[derive(Clone, Copy)]
+// Up to eight groups, zeros behind them.
+#[derive(Clone, Copy, Debug, PartialEq, Eq)]
 pub struct Groups {
-    pub ok: bool,
     pub n: usize,
     pub at: [u16; 8],
 }
 
 pub fn no_groups() -> Groups
-    ensures { result ≡ packed (some []) }
+    ensures { result ≡ holding [] }
 {
     Groups {
-        ok: true,
         n: 0,
         at: [0u16; 8],
     }
 }
 
-fn refuse() -> Groups
-    ensures { result ≡ packed none }
-{
-    Groups {
-        ok: false,
-        n: 0,
-        at: [0u16; 8],
-    }
-}
-
-// One group more, where there is room for it.
-pub fn push(g: Groups, x: Group) -> Groups
+// One group more, where there is room for it; none where there were none to add to, or none to add.
+#[tactic(auto, unfolding(crate::specs::Eight::pushed))]
+pub fn push(g: Option<Groups>, x: Option<u16>) -> Option<Groups>
     ensures { result ≡ pushed g x }
 {
-    let Group::Is(v) = x else {
-        return refuse();
-    };
-    if !g.ok {
-        return refuse();
-    }
-    let n = g.n;
+    let mut more = g?;
+    let v = x?;
+    let n = more.n;
     if 8 <= n {
-        return refuse();
+        return None;
     }
-    let mut more = g;
     more.at[n] = v;
     more.n = n + 1;
-    more
+    Some(more)
 }
 
 // The group at a place of the eight: those of `l` first, those of `r` last, zeros between.
+#[tactic(auto, unfolding(crate::specs::Eight::group_at))]
 fn group_at(l: Groups, r: Groups, i: usize) -> u16
     requires { (i < 8) × (r.n ≤ 8) }
     ensures { result ≡ group_at l r i }
@@ -78,6 +55,7 @@ fn group_at(l: Groups, r: Groups, i: usize) -> u16
 }
 
 // Four groups as one number.
+#[tactic(auto, unfolding(crate::specs::Eight::quad_at))]
 pub fn quad_at(l: Groups, r: Groups, k: usize) -> u64
     requires { (k ≤ 4) × (r.n ≤ 8) }
     ensures { result ≡ quad_at l r k }

@@ -12,13 +12,12 @@ use borrow.Author.Tests.{ltb-false, eq-eqb, eqb-true, le-ltb}
 use Rattle.byte.specs.Byte.{pick}
 use Rattle.byte.specs.Digit.{digit_of}
 use Rattle.byte.proofs.Laws.{and-false}
-use Rattle.number.specs.declared.Number.{Number}
+use Rattle.std.specs.Prelude.{Option, Some, None, Result, Ok, Err}
+use Rattle.number.specs.declared.NumberError.{NumberError}
 use Rattle.number.specs.Number.{digits_in}
 use Rattle.number.proofs.Laws.{digits-is, digits-told, Told}
 use Rattle.split.specs.Split.{split, join}
 use Rattle.split.proofs.Split.{Free, free-cons, free-append, AllFree, free_one, free_more, join_one, join_more, join-split, split-join}
-use Rattle.ipv4.specs.declared.Part.{Part}
-use Rattle.ipv4.specs.declared.Four.{Four}
 use Rattle.ipv4.specs.V4.{as_part, zero_led, part_of, four_of, parts_of, v4_of}
 use Rattle.ipv4.specs.Form.{PartText, V4Text}
 use Rattle.ipv4.proofs.V4.{digits-free, dot-no-digit}
@@ -27,20 +26,19 @@ use Rattle.ipv4.proofs.V4.{digits-free, dot-no-digit}
 plain_of : (p : List ℕ) → zero_led p ≡ false → 0 < length p → get_or p 0 0 ≡ 48 → length p ≡ 1
 plain_of p z h e = let l : ltb 1 (length p) ≡ false = rw (eq-eqb (get_or p 0 0) 48 e) at z in omega (arith, ltb-false 1 (length p) l)
 
-pub part_sound : (p : List ℕ) (n : ℕ) → part_of p ≡ Part.Is n → PartText p n
+pub part_sound : (p : List ℕ) (n : ℕ) → part_of p ≡ Some n → PartText p n
 unfolding part_of
 part_sound p n = by (zero_led p) (digits_in 10 255 p) refl refl
   where
-    by : (t : Bool) (r : Number) → zero_led p ≡ t → digits_in 10 255 p ≡ r → pick t Part.Not (as_part r) ≡ Part.Is n → PartText p n
+    by : (t : Bool) (r : Result ℕ NumberError) → zero_led p ≡ t → digits_in 10 255 p ≡ r → pick t None (as_part r) ≡ Some n → PartText p n
     by true r z q e = let x : ◌≡◌ {A = ℕ} 0 1 = cc in absurd (omega arith)
-    by false (Number.Is m) z q e =
+    by false (Ok m) z q e =
         let x : m ≡ n = cc in
         let k : Told 10 255 p m = digits-told 10 255 p m q in
         record { some = k.some; digits = k.all; plain = plain_of p z k.some; means = sym x ∙ k.means; low = omega (arith, k.low) }
-    by false Number.Form z q e = let x : ◌≡◌ {A = ℕ} 0 1 = cc in absurd (omega arith)
-    by false Number.Range z q e = let x : ◌≡◌ {A = ℕ} 0 1 = cc in absurd (omega arith)
+    by false (Err r) z q e = let x : ◌≡◌ {A = ℕ} 0 1 = cc in absurd (omega arith)
 
-pub part-complete : (p : List ℕ) (n : ℕ) → PartText p n → part_of p ≡ Part.Is n
+pub part-complete : (p : List ℕ) (n : ℕ) → PartText p n → part_of p ≡ Some n
 unfolding part_of
 part-complete p n k =
     rw (digits-is 10 255 p k.some k.digits (omega (arith, k.means, k.low)), by (eqb (get_or p 0 0) 48) refl, ← k.means)
@@ -50,7 +48,7 @@ part-complete p n k =
     by false e = rw e
 
 -- Four of them.
-parts-sound : (ps : List (List ℕ)) (v : ℕ) → parts_of ps ≡ Four.Is v → V4Text (join 46 ps) v
+parts-sound : (ps : List (List ℕ)) (v : ℕ) → parts_of ps ≡ Some v → V4Text (join 46 ps) v
 unfolding parts_of
 parts-sound [] v e = let x : ◌≡◌ {A = ℕ} 0 1 = cc in absurd (omega arith)
 parts-sound (p ∷ []) v e = let x : ◌≡◌ {A = ℕ} 0 1 = cc in absurd (omega arith)
@@ -58,8 +56,8 @@ parts-sound (p ∷ q ∷ []) v e = let x : ◌≡◌ {A = ℕ} 0 1 = cc in absur
 parts-sound (p ∷ q ∷ r ∷ []) v e = let x : ◌≡◌ {A = ℕ} 0 1 = cc in absurd (omega arith)
 parts-sound (p ∷ q ∷ r ∷ t ∷ []) v e = by (part_of p) (part_of q) (part_of r) (part_of t) refl refl refl refl e
   where
-    by : (a b c d : Part) → part_of p ≡ a → part_of q ≡ b → part_of r ≡ c → part_of t ≡ d → four_of a b c d ≡ Four.Is v → V4Text (join 46 (p ∷ q ∷ r ∷ t ∷ [])) v
-    by (Part.Is a) (Part.Is b) (Part.Is c) (Part.Is d) i j k l e =
+    by : (a b c d : Option ℕ) → part_of p ≡ a → part_of q ≡ b → part_of r ≡ c → part_of t ≡ d → four_of a b c d ≡ Some v → V4Text (join 46 (p ∷ q ∷ r ∷ t ∷ [])) v
+    by (Some a) (Some b) (Some c) (Some d) i j k l e =
         let m : v ≡ a * 2 ^ 24 + b * 2 ^ 16 + c * 2 ^ 8 + d = cc in
         record {
           p = p;
@@ -77,27 +75,27 @@ parts-sound (p ∷ q ∷ r ∷ t ∷ []) v e = by (part_of p) (part_of q) (part_
           text = refl;
           means = m;
         }
-    by (Part.Is a) (Part.Is b) (Part.Is c) Part.Not i j k l e = let x : ◌≡◌ {A = ℕ} 0 1 = cc in absurd (omega arith)
-    by (Part.Is a) (Part.Is b) Part.Not d i j k l e = let x : ◌≡◌ {A = ℕ} 0 1 = cc in absurd (omega arith)
-    by (Part.Is a) Part.Not c d i j k l e = let x : ◌≡◌ {A = ℕ} 0 1 = cc in absurd (omega arith)
-    by Part.Not b c d i j k l e = let x : ◌≡◌ {A = ℕ} 0 1 = cc in absurd (omega arith)
+    by (Some a) (Some b) (Some c) None i j k l e = let x : ◌≡◌ {A = ℕ} 0 1 = cc in absurd (omega arith)
+    by (Some a) (Some b) None d i j k l e = let x : ◌≡◌ {A = ℕ} 0 1 = cc in absurd (omega arith)
+    by (Some a) None c d i j k l e = let x : ◌≡◌ {A = ℕ} 0 1 = cc in absurd (omega arith)
+    by None b c d i j k l e = let x : ◌≡◌ {A = ℕ} 0 1 = cc in absurd (omega arith)
 parts-sound (p ∷ q ∷ r ∷ t ∷ u ∷ ps) v e = let x : ◌≡◌ {A = ℕ} 0 1 = cc in absurd (omega arith)
 
-pub v4-sound : (s : List ℕ) (v : ℕ) → v4_of s ≡ Four.Is v → V4Text s v
+pub v4-sound : (s : List ℕ) (v : ℕ) → v4_of s ≡ Some v → V4Text s v
 unfolding v4_of
 v4-sound s v e = rw (join-split 46 s) at (parts-sound (split 46 s) v e)
 
 part_free : {p : List ℕ} {n : ℕ} (b : ℕ) → 10 ≤ digit_of b → PartText p n → Free b p
 part_free {p} b h k = digits-free 10 b h p k.digits
 
-pub v4-complete : (s : List ℕ) (v : ℕ) → V4Text s v → v4_of s ≡ Four.Is v
+pub v4-complete : (s : List ℕ) (v : ℕ) → V4Text s v → v4_of s ≡ Some v
 unfolding v4_of parts_of
 v4-complete s v k =
     let free : AllFree 46 (k.p ∷ k.q ∷ k.r ∷ k.t ∷ []) =
     free_more (part_free 46 dot-no-digit k.first) (free_more (part_free 46 dot-no-digit k.second) (free_more (part_free 46 dot-no-digit k.third) (free_one (part_free 46 dot-no-digit k.fourth)))) in
     rw (k.text, split-join 46 free, part-complete _ _ k.first, part-complete _ _ k.second, part-complete _ _ k.third, part-complete _ _ k.fourth, k.means)
 
-pub v4-exactly : (s : List ℕ) (v : ℕ) → (v4_of s ≡ Four.Is v) ↔ V4Text s v
+pub v4-exactly : (s : List ℕ) (v : ℕ) → (v4_of s ≡ Some v) ↔ V4Text s v
 v4-exactly s v = (v4-sound s v, v4-complete s v)
 
 -- what stands in such a text: no byte that is neither a digit nor a dot

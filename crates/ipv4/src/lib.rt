@@ -4,20 +4,6 @@
 ghost use Rattle.std.specs.Prelude.{◌≡◌, ◌^◌, ◌<◌};
 ghost use Rattle.ipv4.specs.V4.{zero_led, part_of, v4_of, with_part};
 
-// An IPv4 address, as one number.
-#[derive(Clone, Copy)]
-pub enum Four {
-    Is(u32),
-    Not,
-}
-
-// A decimal part of an IPv4 address.
-#[derive(Clone, Copy)]
-pub enum Part {
-    Is(u8),
-    Not,
-}
-
 fn is_zero_led(s: &[u8]) -> bool
     ensures { result ≡ zero_led s.now }
 {
@@ -28,32 +14,27 @@ fn is_zero_led(s: &[u8]) -> bool
 }
 
 // 0 to 255, no leading zero unless the part is `0`.
-fn read_part(s: &[u8]) -> Part
+fn read_part(s: &[u8]) -> Option<u8>
     ensures { result ≡ part_of s.now }
 {
     if is_zero_led(s) {
-        return Part::Not;
+        return None;
     }
-    match number::read_digits(s, number::Radix::Ten, 255) {
-        number::Number::Is(n) => Part::Is(n as u8),
-        number::Number::Form => Part::Not,
-        number::Number::Range => Part::Not,
-    }
+    let n = number::read_digits(s, number::Radix::Ten, 255).ok()?;
+    Some(n as u8)
 }
 
 // The number of the parts so far, with one more.
-fn with_part(v: u32, part: Part) -> Four
+fn with_part(v: u32, part: Option<u8>) -> Option<u32>
     requires { v < 2 ^ 24 }
     ensures { result ≡ with_part v part }
 {
-    match part {
-        Part::Is(p) => Four::Is(v * 256 + p as u32),
-        Part::Not => Four::Not,
-    }
+    let p = part?;
+    Some(v * 256 + p as u32)
 }
 
 // Four parts with a dot between each two: three that end at a dot, and the last.
-pub fn read_v4(s: &[u8]) -> Four
+pub fn read_v4(s: &[u8]) -> Option<u32>
     ensures { result ≡ v4_of s.now }
 {
     let mut v: u32 = 0;
@@ -62,13 +43,9 @@ pub fn read_v4(s: &[u8]) -> Four
     while 0 < left {
         let e = split::find(s, i, b'.');
         if s.len() <= e {
-            return Four::Not;
+            return None;
         }
-        let four = with_part(v, read_part(&s[i..e]));
-        let Four::Is(next) = four else {
-            return Four::Not;
-        };
-        v = next;
+        v = with_part(v, read_part(&s[i..e]))?;
         left -= 1;
         i = e + 1;
     }

@@ -10,23 +10,24 @@ use lib.ListN.{length, get_or, drop, replicate, length-append}
 use borrow.Author.Tests.{lt-ltb, le-leb, lt-leb, ltb-true, leb-true, ne_eqb}
 use Rattle.byte.specs.Byte.{pick}
 use Rattle.byte.proofs.Laws.{and_left, and_right, and-false}
-use Rattle.number.specs.declared.Number.{Number}
+use Rattle.std.specs.Prelude.{Ok, Err}
+use Rattle.number.specs.declared.NumberError.{NumberError}
 use Rattle.number.specs.Digits.{all_digits, value_in}
 use Rattle.number.specs.Number.{digits_in, unsigned_of}
 use Rattle.digits.proofs.Digits.{value-zeros, all-digits-zeros}
 
 -- What digits read as, told by their form and their number.
 module _ (base max : ℕ) (s : List ℕ) where
-  pub digits-form : all_digits base s ≡ false → digits_in base max s ≡ Number.Form
+  pub digits-form : all_digits base s ≡ false → digits_in base max s ≡ Err NumberError.Form
   unfolding digits_in
   digits-form e = rw (e, and-false (ltb 0 (length s)))
 
   module _ (some : 0 < length s) (all : all_digits base s ≡ true) where
-    pub digits-is : value_in base s ≤ max → digits_in base max s ≡ Number.Is (value_in base s)
+    pub digits-is : value_in base s ≤ max → digits_in base max s ≡ Ok (value_in base s)
     unfolding digits_in
     digits-is h = rw (lt-ltb 0 (length s) some, all, le-leb _ _ h)
 
-    pub digits-range : max < value_in base s → digits_in base max s ≡ Number.Range
+    pub digits-range : max < value_in base s → digits_in base max s ≡ Err NumberError.Range
     unfolding digits_in
     digits-range h = rw (lt-ltb 0 (length s) some, all, lt-leb _ _ h)
 
@@ -37,12 +38,12 @@ pub record Told (base max : ℕ) (s : List ℕ) (n : ℕ) : Type 0 where
   pub means : n ≡ value_in base s
   pub low : n ≤ max
 
-pub digits-told : (base max : ℕ) (s : List ℕ) (n : ℕ) → digits_in base max s ≡ Number.Is n → Told base max s n
+pub digits-told : (base max : ℕ) (s : List ℕ) (n : ℕ) → digits_in base max s ≡ Ok n → Told base max s n
 unfolding digits_in
 digits-told base max s n = form (ltb 0 (length s) && all_digits base s) refl
   where
     range : (t : Bool) → leb (value_in base s) max ≡ t → ltb 0 (length s) && all_digits base s ≡ true
-        → pick t (Number.Is (value_in base s)) Number.Range ≡ Number.Is n → Told base max s n
+        → pick t (Ok (value_in base s)) (Err NumberError.Range) ≡ Ok n → Told base max s n
     range true e f i =
         let m : n ≡ value_in base s = cc in
         record {
@@ -54,16 +55,16 @@ digits-told base max s n = form (ltb 0 (length s) && all_digits base s) refl
     range false e f i = let z : ◌≡◌ {A = ℕ} 0 1 = cc in record { some = omega arith; all = cc; means = omega arith; low = omega arith }
 
     form : (t : Bool) → ltb 0 (length s) && all_digits base s ≡ t
-        → pick t (pick (leb (value_in base s) max) (Number.Is (value_in base s)) Number.Range) Number.Form ≡ Number.Is n → Told base max s n
+        → pick t (pick (leb (value_in base s) max) (Ok (value_in base s)) (Err NumberError.Range)) (Err NumberError.Form) ≡ Ok n → Told base max s n
     form true f i = range (leb (value_in base s) max) refl f i
     form false f i = let z : ◌≡◌ {A = ℕ} 0 1 = cc in record { some = omega arith; all = cc; means = omega arith; low = omega arith }
 
 -- A number read is at most max: with it a caller makes it an integer of that range.
-pub unsigned-low : (max : ℕ) (s : List ℕ) (n : ℕ) → unsigned_of max s ≡ Number.Is n → n ≤ max
+pub unsigned-low : (max : ℕ) (s : List ℕ) (n : ℕ) → unsigned_of max s ≡ Ok n → n ≤ max
 unfolding unsigned_of
 unsigned-low max s n = either (eqb (get_or s 0 0) 43)
   where
-    either : (t : Bool) → pick t (digits_in 10 max (drop 1 s)) (digits_in 10 max s) ≡ Number.Is n → n ≤ max
+    either : (t : Bool) → pick t (digits_in 10 max (drop 1 s)) (digits_in 10 max s) ≡ Ok n → n ≤ max
     either true e = (digits-told 10 max (drop 1 s) n e).low
     either false e = (digits-told 10 max s n e).low
 

@@ -3,7 +3,7 @@
 
 ghost use Rattle.std.specs.Prelude.{◌≡◌, drop};
 ghost use Rattle.byte.specs.Byte.{pick};
-ghost use Rattle.number.specs.declared.Number.{Number};
+ghost use Rattle.number.specs.declared.NumberError.{NumberError};
 ghost use Rattle.number.specs.Digits.{all_digits};
 ghost use Rattle.number.specs.Number.{radix_of, digits_in, unsigned_of};
 
@@ -14,49 +14,47 @@ pub enum Radix {
     Sixteen,
 }
 
-#[derive(Clone, Copy)]
-pub enum Number {
-    Is(u64),
+// What is wrong with a piece that is no number within the range.
+#[derive(Clone, Copy, Debug, PartialEq, Eq)]
+pub enum NumberError {
     Form,
     Range,
 }
 
 // What a piece is whose digits up to the place `from` are beyond the range: a fault of form behind it still goes first.
-fn beyond(s: &[u8], from: usize, base: u8) -> Number
-    ensures { result ≡ pick (all_digits base (drop from s.now)) Number.Range Number.Form }
+fn beyond(s: &[u8], from: usize, base: u8) -> NumberError
+    ensures { result ≡ pick (all_digits base (drop from s.now)) NumberError.Range NumberError.Form }
 {
     if digits::all_digits(s, from, base) {
-        Number::Range
+        NumberError::Range
     } else {
-        Number::Form
+        NumberError::Form
     }
 }
 
 // The digits from a place on.
-pub fn digits_from(s: &[u8], from: usize, base: u8, max: u64) -> Number
+pub fn digits_from(s: &[u8], from: usize, base: u8, max: u64) -> Result<u64, NumberError>
     ensures { result ≡ digits_in base max (drop from s.now) }
 {
     if s.len() <= from {
-        return Number::Form;
+        return Err(NumberError::Form);
     }
     let mut v: u64 = 0;
-    let mut i = from;
-    while i < s.len() {
+    for i in from..s.len() {
         let d = byte::digit_of(s[i]);
         if base <= d {
-            return Number::Form;
+            return Err(NumberError::Form);
         }
         if !digits::stays(v, base as u64, d as u64, max) {
-            return beyond(s, i + 1, base);
+            return Err(beyond(s, i + 1, base));
         }
         v = v * base as u64 + d as u64;
-        i += 1;
     }
-    Number::Is(v)
+    Ok(v)
 }
 
 // One or more digits that stand for a number of at most `max`; no sign.
-pub fn read_digits(s: &[u8], radix: Radix, max: u64) -> Number
+pub fn read_digits(s: &[u8], radix: Radix, max: u64) -> Result<u64, NumberError>
     ensures { result ≡ digits_in (radix_of radix) max s.now }
 {
     match radix {
@@ -66,7 +64,7 @@ pub fn read_digits(s: &[u8], radix: Radix, max: u64) -> Number
 }
 
 // An optional `+` and decimal digits, for a number of at most `max`.
-pub fn read_unsigned(s: &[u8], max: u64) -> Number
+pub fn read_unsigned(s: &[u8], max: u64) -> Result<u64, NumberError>
     ensures { result ≡ unsigned_of max s.now }
 {
     if byte::at(s, 0) == b'+' {

@@ -7,6 +7,7 @@ use Prim.Native.Nat.{◌+◌, ◌-◌, ◌≤◌}
 use native.Mathlib.Omega.{arith}
 use lib.ListN.{length, take, drop, length-drop}
 use lib.Seq.{take_all, length-take-le}
+use Rattle.std.specs.Prelude.{Option}
 use Rattle.groups.specs.declared.Groups.{Groups}
 use Rattle.groups.specs.Eight.{packed}
 use Rattle.group_text.proofs.Gap.{gap_within}
@@ -49,7 +50,7 @@ returns c =
     let g = e.find_gap-gap.result in
     let n : take (length s - (g + 2)) (drop (g + 2) s) ≡ drop (g + 2) s = take_all (length s - (g + 2)) (drop (g + 2) s) (omega (arith, length-drop (g + 2) s)) in
     c.around.ensures
-    ∙ ap (λ (l : Groups). around_at l r.read_side-2.result) b.read_side.ensures
+    ∙ ap (λ (l : Option Groups). around_at l r.read_side-2.result) b.read_side.ensures
     ∙ ap (around_at (packed (side_of false (take g s)))) (r.read_side-2.ensures ∙ ap (λ (t : List _). packed (side_of true t)) n)
     ∙ around-held (side_of false (take g s)) (side_of true (drop (g + 2) s))
     ∙ sym (v6-around s g e.find_gap-gap.ensures e.if-s-gap.false)

@@ -3,7 +3,7 @@
 use Prim.Native.Nat.{◌%◌, ◌^◌}
 use mathlib.Core.Path.{sym, ap, ◌∙◌}
 use borrow.Author.Tests.{not-true, not-false}
-use Rattle.groups.specs.declared.Group.{Group}
+use Rattle.std.specs.Prelude.{Option, Some}
 use Rattle.groups.specs.declared.Groups.{Groups}
 use Rattle.groups.specs.Eight.{pushed}
 use Rattle.group_text.proofs.Reading.{last-plain, last-four, last-group}
@@ -15,19 +15,19 @@ returns-then-not-tail c =
     let a = t.args in
     c.push.ensures ∙ ap (pushed a.g) c.read_group.ensures ∙ last-plain a.g a.p.now a.tail (not-true a.tail t.if-not-tail.true-raw)
 
-pub returns-in-Is : goal.returns-in-Is
-returns-in-Is c =
+pub returns-in-Some : goal.returns-in-Some
+returns-in-Some c =
     let k = c in
     let v = k in
     let a = v.args in
-    let n = k.in-Is.v in
-    c.push-in-Is-2.ensures ∙ ap (λ (g : Groups). pushed g (Group.Is (n % 2 ^ 16))) c.push-in-Is.ensures
-    ∙ last-four a.g a.p.now a.tail (not-false a.tail v.if-not-tail.false-raw) n (sym v.read_v4-four.ensures ∙ k.in-Is.is)
+    let n = k.in-Some.v in
+    c.push-in-Some-2.ensures ∙ ap (λ (g : Option Groups). pushed g (Some (n % 2 ^ 16))) c.push-in-Some.ensures
+    ∙ last-four a.g a.p.now a.tail (not-false a.tail v.if-not-tail.false-raw) n (sym v.read_v4.ensures ∙ k.in-Some.is)
 
-pub returns-in-Not : goal.returns-in-Not
-returns-in-Not c =
+pub returns-in-None : goal.returns-in-None
+returns-in-None c =
     let k = c in
     let v = k in
     let a = v.args in
-    c.push-in-Not.ensures ∙ ap (pushed a.g) c.read_group-in-Not.ensures
-    ∙ last-group a.g a.p.now a.tail (not-false a.tail v.if-not-tail.false-raw) (sym v.read_v4-four.ensures ∙ k.in-Not.is)
+    c.push-in-None.ensures ∙ ap (pushed a.g) c.read_group-in-None.ensures
+    ∙ last-group a.g a.p.now a.tail (not-false a.tail v.if-not-tail.false-raw) (sym v.read_v4.ensures ∙ k.in-None.is)

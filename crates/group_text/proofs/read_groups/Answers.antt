@@ -1,14 +1,17 @@
 -- `group_text::read_groups`: the groups are those that are held and those from here on.
 -- Assumes nothing.
-use mathlib.Core.Path.{◌∙◌}
+use mathlib.Core.Path.{ap, ◌∙◌}
+use Rattle.std.specs.Prelude.{Some}
+use Rattle.groups.specs.Eight.{packed}
 use native.Mathlib.Omega.{arith}
 use Rattle.split.proofs.Split.{first-within}
 use Rattle.group_text.proofs.Reading.{reading-start, reading-more, reading-last}
 use Rattle.group_text.proofs.read_groups.Goals as goal
 
 pub loop-e-init : goal.loop-e-init
+unfolding packed
 loop-e-init c =
-    (omega arith, c.find-e.ensures, reading-start _ _ _ c.no_groups-g.ensures)
+    (omega arith, c.find-e.ensures, reading-start _ _ _ (ap Some c.no_groups.ensures))
 
 pub slice_bounds-read_group-count : goal.slice_bounds-read_group-count
 slice_bounds-read_group-count c =

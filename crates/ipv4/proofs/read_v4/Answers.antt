@@ -6,7 +6,7 @@ use Prim.Native.Nat.{ℕ, ◌+◌, ◌-◌}
 use mathlib.Core.Path.{◌≡◌, sym, ap, ◌∙◌}
 use native.Mathlib.Omega.{arith}
 use Rattle.split.specs.Split.{split}
-use Rattle.ipv4.specs.declared.Four.{Four}
+use Rattle.std.specs.Prelude.{Option, Some, None}
 use Rattle.ipv4.specs.V4.{v4_of, part_of, with_part}
 use Rattle.ipv4.proofs.V4.{parts_from, v4-start, parts_more, parts-short, parts_last, parts-refused, roof-most, part_room}
 -- in a turn: what was read of the piece, and the whole from behind its dot on
@@ -33,17 +33,18 @@ pub slice_bounds-read_part-end : goal.slice_bounds-read_part-end
 slice_bounds-read_part-end c =
     omega (arith, c.if-s-e.false)
 
-pub returns-in_default : goal.returns-in_default
-returns-in_default c =
+pub returns-in_err-v : goal.returns-in_err-v
+returns-in_err-v c =
     let l = c.loop-left in
     let t = c.args.s.now in
     let e = c.find-e.result in
-    let read : (f : Four) → c.with_part-four.result ≡ f → with_part l.v (part_of (take (e - l.i) (drop l.i t))) ≡ f = λ f q. sym (c.with_part-four.ensures ∙ ap (with_part l.v) c.read_part.ensures) ∙ q in
-    let turned : (f : Four) → c.with_part-four.result ≡ f → v4_of t ≡ parts_from (l.left - 1) f (split 46 (drop (e + 1) t)) = λ f q.
+    let read : (f : Option ℕ) → c.with_part.result ≡ f → with_part l.v (part_of (take (e - l.i) (drop l.i t))) ≡ f = λ f q. sym (c.with_part.ensures ∙ ap (with_part l.v) c.read_part.ensures) ∙ q in
+    let turned : (f : Option ℕ) → c.with_part.result ≡ f → v4_of t ≡ parts_from (l.left - 1) f (split 46 (drop (e + 1) t)) = λ f q.
     l.invariant.3
-    ∙ parts_more t l.i e c.find-e.ensures (Four.Is l.v) l.left c.loop-left-test.true c.if-s-e.false
-    ∙ ap (λ (f : Four). parts_from (l.left - 1) f (split 46 (drop (e + 1) t))) (read f q) in
-    sym (turned _ c.in_default.is ∙ parts-refused _ _)
+    ∙ parts_more t l.i e c.find-e.ensures (Some l.v) l.left c.loop-left-test.true c.if-s-e.false
+    ∙ ap (λ (f : Option ℕ). parts_from (l.left - 1) f (split 46 (drop (e + 1) t))) (read f q) in
+    let none : ◌≡◌ {A = Option ℕ} c.from_residual.result None = c.from_residual.ensures in
+    none ∙ sym (turned _ c.in_err-v.was ∙ parts-refused _ _)
 
 pub overflow_add-i : goal.overflow_add-i
 overflow_add-i c =
@@ -54,15 +55,15 @@ loop-left-preserved c =
     let l = c.loop-left in
     let t = c.args.s.now in
     let e = c.find-e.result in
-    let read : (f : Four) → c.with_part-four.result ≡ f → with_part l.v (part_of (take (e - l.i) (drop l.i t))) ≡ f = λ f q. sym (c.with_part-four.ensures ∙ ap (with_part l.v) c.read_part.ensures) ∙ q in
-    let turned : (f : Four) → c.with_part-four.result ≡ f → v4_of t ≡ parts_from (l.left - 1) f (split 46 (drop (e + 1) t)) = λ f q.
+    let read : (f : Option ℕ) → c.with_part.result ≡ f → with_part l.v (part_of (take (e - l.i) (drop l.i t))) ≡ f = λ f q. sym (c.with_part.ensures ∙ ap (with_part l.v) c.read_part.ensures) ∙ q in
+    let turned : (f : Option ℕ) → c.with_part.result ≡ f → v4_of t ≡ parts_from (l.left - 1) f (split 46 (drop (e + 1) t)) = λ f q.
     l.invariant.3
-    ∙ parts_more t l.i e c.find-e.ensures (Four.Is l.v) l.left c.loop-left-test.true c.if-s-e.false
-    ∙ ap (λ (f : Four). parts_from (l.left - 1) f (split 46 (drop (e + 1) t))) (read f q) in (
+    ∙ parts_more t l.i e c.find-e.ensures (Some l.v) l.left c.loop-left-test.true c.if-s-e.false
+    ∙ ap (λ (f : Option ℕ). parts_from (l.left - 1) f (split 46 (drop (e + 1) t))) (read f q) in (
       omega (arith, c.if-s-e.false),
       omega arith,
-      part_room l.left l.v (take (e - l.i) (drop l.i t)) _ c.loop-left-test.true l.invariant.1 l.invariant.2 (read _ c.in-Is.is),
-      turned _ c.in-Is.is,
+      part_room l.left l.v (take (e - l.i) (drop l.i t)) _ c.loop-left-test.true l.invariant.1 l.invariant.2 (read _ c.in_ok-v.was),
+      turned _ c.in_ok-v.was,
     )
 
 pub with_part-requires : goal.with_part-requires
@@ -76,6 +77,6 @@ returns c =
     let i = l.loop-left.i in
     let z : l.loop-left.left ≡ 0 = omega (arith, c.loop-left-test.false) in
     let n : take (length s - i) (drop i s) ≡ drop i s = take_all (length s - i) (drop i s) (omega (arith, length-drop i s)) in
-    c.with_part.ensures
+    c.with_part-2.ensures
     ∙ ap (with_part l.loop-left.v) (c.read_part-2.ensures ∙ ap part_of n)
-    ∙ sym (l.loop-left.invariant.3 ∙ ap (λ (k : ℕ). parts_from k (Four.Is l.loop-left.v) (split 46 (drop i s))) z ∙ parts_last (drop i s) (Four.Is l.loop-left.v))
+    ∙ sym (l.loop-left.invariant.3 ∙ ap (λ (k : ℕ). parts_from k (Some l.loop-left.v) (split 46 (drop i s))) z ∙ parts_last (drop i s) (Some l.loop-left.v))

@@ -4,14 +4,14 @@ use lib.ListN.{length, drop}
 use Prim.Native.Nat.{◌≤◌, ◌<◌}
 use mathlib.Core.Path.{◌≡◌}
 use Rattle.split.specs.Split.{split}
-use Rattle.ipv4.specs.declared.Four.{Four}
+use Rattle.std.specs.Prelude.{Some}
 use Rattle.ipv4.specs.V4.{v4_of}
 use Rattle.ipv4.proofs.V4.{parts_from, roof}
 -- in a turn: what was read of the piece, and the whole from behind its dot on
 use Rattle.ipv4.proofs.read_v4.Given as goal
 
 abbrev pub invariant-loop-left : goal.invariant-loop-left
-invariant-loop-left l = (l.i ≤ length l.s) × (l.left ≤ 3) × (l.v < roof l.left) × (v4_of l.s ≡ parts_from l.left (Four.Is l.v) (split 46 (drop l.i l.s)))
+invariant-loop-left l = (l.i ≤ length l.s) × (l.left ≤ 3) × (l.v < roof l.left) × (v4_of l.s ≡ parts_from l.left (Some l.v) (split 46 (drop l.i l.s)))
 
 abbrev pub decreases-loop-left : goal.decreases-loop-left
 decreases-loop-left l = l.left

@@ -1,4 +1,5 @@
-use mathlib.Core.Path.{sym, ◌∙◌}
+use mathlib.Core.Path.{sym, ap, ◌∙◌}
+use Rattle.std.specs.Prelude.{Err}
 use mathlib.Core.List.{◌∷◌}
 use Prim.Native.Nat.{◌+◌, ◌*◌, ◌≤◌}
 use native.Mathlib.Omega.{arith}
@@ -33,7 +34,7 @@ returns-then-not-stays c =
     let here_turn : Reading c.args.base c.args.max (drop c.args.from c.args.s.now) c.loop-i.v (get_or c.args.s.now c.loop-i.i 0 ∷ drop (c.loop-i.i + 1) c.args.s.now) = rw (add-one, ← (drop-cons c.args.s.now c.loop-i.i 0 c.loop-i-test.true)) c.loop-i.invariant in
     let t = c in
     let d = t in
-    c.beyond.ensures ∙ sym (over _ _ _ _ _ _ _ here_turn d.digit_of-d.ensures t.if-base-d.false (leb-false _ _ (sym t.stays.ensures ∙ not-true _ t.if-not-stays.true-raw)))
+    ap Err c.beyond.ensures ∙ sym (over _ _ _ _ _ _ _ here_turn d.digit_of-d.ensures t.if-base-d.false (leb-false _ _ (sym t.stays.ensures ∙ not-true _ t.if-not-stays.true-raw)))
 
 pub overflow_mul-v : goal.overflow_mul-v
 overflow_mul-v c =
