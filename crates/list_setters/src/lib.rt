@@ -1,68 +1,25 @@
 // The setters that append an address or a port, as crate setters has those of numbers.
-#![tactic(auto)]
+#![tactic(auto, using(setters::proofs::Answers::answer_set), unfolding(setters::specs::Setter::room, setters::specs::Setter::changed))]
 
 ghost use Rattle.std.specs.Prelude.{◌≡◌};
 ghost use Rattle.setters.specs.Setter.{address, number, set};
 
 use address::Address;
 use config::Config;
-use setters::Answer;
-
-// The number that document 01 gives a record with a list count above 16.
-const UNSOUND: usize = 17;
+use setters::{Answer, answered};
 
 // Key 9, hostaddr: one more, where there is room.
 pub fn hostaddr(c: Config, a: Address) -> Answer
     ensures { result ≡ set 9 (address a) c }
 {
-    if !sound::counts_in(c) {
-        return Answer {
-            number: UNSOUND,
-            config: c,
-        };
-    }
-    let old = c.hostaddr;
-    let more = lists::keep_address(old, a);
-    let fault = more.fault;
-    if !lists::is_fine(fault) {
-        return Answer {
-            number: lists::number_of(fault),
-            config: c,
-        };
-    }
-    let list = more.addresses;
-    let mut next = c;
-    next.hostaddr = list;
-    Answer {
-        number: 0,
-        config: next,
-    }
+    let kept = lists::keep_address(c.hostaddr, a);
+    answered(c, kept.map(|hostaddr| Config { hostaddr, ..c }))
 }
 
 // Key 10, port: one more, where there is room.
 pub fn port(c: Config, port: u16) -> Answer
     ensures { result ≡ set 10 (number port) c }
 {
-    if !sound::counts_in(c) {
-        return Answer {
-            number: UNSOUND,
-            config: c,
-        };
-    }
-    let old = c.port;
-    let more = lists::keep_port(old, port);
-    let fault = more.fault;
-    if !lists::is_fine(fault) {
-        return Answer {
-            number: lists::number_of(fault),
-            config: c,
-        };
-    }
-    let list = more.ports;
-    let mut next = c;
-    next.port = list;
-    Answer {
-        number: 0,
-        config: next,
-    }
+    let kept = lists::keep_port(c.port, port);
+    answered(c, kept.map(|port| Config { port, ..c }))
 }
