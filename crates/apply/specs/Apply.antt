@@ -3,13 +3,12 @@
 use Rattle.std.specs.Prelude.{ℕ, ◌-◌, ◌^◌, Bool, List, [], ◌∷◌, eqb, ltb, ℤ, pos, negsuc, length, get_or, Option, Some, Result, Ok, Err, ⊤}
 use Rattle.byte.specs.Byte.{pick}
 use Rattle.names.specs.Find.{word_number}
-use Rattle.number.specs.declared.Number.{Number}
-use Rattle.integer.specs.declared.Signed.{Signed}
+use Rattle.number.specs.declared.NumberError.{NumberError}
 use Rattle.number.specs.Number.{unsigned_of}
 use Rattle.integer.specs.Integer.{signed_of}
 use Rattle.lists.specs.declared.Place.{Place}
 use Rattle.lists.specs.declared.Fault.{Fault}
-use Rattle.lists.specs.Fault.{is_fine}
+use Rattle.lists.specs.Fault.{is_fine, fault_from}
 use Rattle.lists.specs.Lists.{host_after, hosts_after, addresses_after, ports_after}
 use Rattle.config.specs.declared.SslMode.{SslMode}
 use Rattle.config.specs.declared.SslNegotiation.{SslNegotiation}
@@ -49,48 +48,42 @@ load_balance_hosts_of n = pick (eqb n 1) LoadBalanceHosts.Disable LoadBalanceHos
 abbrev pub word_fault : ℕ → Result ⊤ Fault
 word_fault n = pick (eqb n 0) (Err Fault.Word) (Ok tt)
 
-abbrev pub number_fault : Number → Result ⊤ Fault
-number_fault (Number.Is n) = Ok tt
-number_fault Number.Form = Err Fault.Form
-number_fault Number.Range = Err Fault.Range
+abbrev pub number_fault : Result ℕ NumberError → Result ⊤ Fault
+number_fault (Ok n) = Ok tt
+number_fault (Err e) = Err (fault_from e)
 
 -- "The two timeouts, idle and interval are signed 64-bit": their seconds, 0 for zero or below
 abbrev pub seconds_of : ℤ → ℕ
 seconds_of (pos n) = n
 seconds_of (negsuc n) = 0
 
-abbrev pub seconds_read : Signed → Number
-seconds_read (Signed.Is t) = Number.Is (seconds_of t)
-seconds_read Signed.Form = Number.Form
-seconds_read Signed.Range = Number.Range
+abbrev pub seconds_read : Result ℤ NumberError → Result ℕ NumberError
+seconds_read (Ok t) = Ok (seconds_of t)
+seconds_read (Err e) = Err e
 
-unfoldable pub seconds_in : List ℕ → Number
+unfoldable pub seconds_in : List ℕ → Result ℕ NumberError
 seconds_in v = seconds_read (signed_of v)
 
 -- "a timeout of zero or below is accepted and leaves the field as it stands, and so with idle and interval"
 abbrev pub time_of : Option ℕ → ℕ → Option ℕ
 time_of old n = pick (eqb n 0) old (Some n)
 
-abbrev pub time_after : Option ℕ → Number → Option ℕ
-time_after old (Number.Is n) = time_of old n
-time_after old Number.Form = old
-time_after old Number.Range = old
+abbrev pub time_after : Option ℕ → Result ℕ NumberError → Option ℕ
+time_after old (Ok n) = time_of old n
+time_after old (Err e) = old
 
-abbrev pub idle_after : ℕ → Number → ℕ
-idle_after old (Number.Is n) = pick (eqb n 0) old n
-idle_after old Number.Form = old
-idle_after old Number.Range = old
+abbrev pub idle_after : ℕ → Result ℕ NumberError → ℕ
+idle_after old (Ok n) = pick (eqb n 0) old n
+idle_after old (Err e) = old
 
 -- "keepalives 0 to 2^64 - 1 (zero is off), retries 0 to 2^32 - 1"
-abbrev pub keepalives_after : Bool → Number → Bool
-keepalives_after old (Number.Is n) = ltb 0 n
-keepalives_after old Number.Form = old
-keepalives_after old Number.Range = old
+abbrev pub keepalives_after : Bool → Result ℕ NumberError → Bool
+keepalives_after old (Ok n) = ltb 0 n
+keepalives_after old (Err e) = old
 
-abbrev pub retries_after : Option ℕ → Number → Option ℕ
-retries_after old (Number.Is n) = Some n
-retries_after old Number.Form = old
-retries_after old Number.Range = old
+abbrev pub retries_after : Option ℕ → Result ℕ NumberError → Option ℕ
+retries_after old (Ok n) = Some n
+retries_after old (Err e) = old
 
 -- why a setting is refused, or that it is not: an entry for each kind
 abbrev pub faults : List ℕ → ℕ → Config → List (Result ⊤ Fault)

@@ -1,135 +1,179 @@
-// The settings whose values stand in cells of the row `fields`: each function writes the cells of one field.
+// The settings of one field: what a value says, written into the field that is lent. A refused value leaves it as it was.
 #![tactic(auto)]
 
-ghost use Rattle.std.specs.Prelude.{◌≡◌, ◌-◌, ◌^◌};
+ghost use Rattle.std.specs.Prelude.{ℕ, ◌≡◌, ◌-◌, ◌^◌, Some, Ok};
 ghost use Rattle.number.specs.Number.{unsigned_of};
 ghost use Rattle.names.specs.Find.{word_number};
-ghost use Rattle.apply.specs.Apply.{word_fault, number_fault, seconds_of, seconds_in};
-ghost use Rattle.field_keys.specs.Cells.{text_put, word_put, time_put, idle_put, keepalives_put, retries_put, retries_in};
+ghost use Rattle.apply.specs.Apply.{ssl_mode_of, ssl_negotiation_of, target_session_attrs_of, channel_binding_of, load_balance_hosts_of, word_fault, number_fault, seconds_of, seconds_in, time_after, idle_after, keepalives_after, retries_after};
+ghost use Rattle.field_keys.specs.Fields.{number_or_fault, word_after};
 
-use integer::{Number32, Signed};
-use lists::Fault;
-use number::Number;
+use config::{ChannelBinding, LoadBalanceHosts, SslMode, SslNegotiation, TargetSessionAttrs};
+use lists::{Fault, Place};
 
-// A text, kept where it stands: its three cells begin at `at`. From 30 on there is no room for them, and nothing is written; so with the other two.
-pub fn put_text(fields: &mut [usize; 32], at: usize, start: usize, len: usize) -> Fault
-    ensures value { result ≡ Fault.NoFault }
-    ensures fields_after { fields.new ≡ text_put at start len fields.old }
-{
-    if 30 <= at {
-        return Fault::NoFault;
-    }
-    fields[at] = 1;
-    fields[at + 1] = start;
-    fields[at + 2] = len;
-    Fault::NoFault
+// A field that holds a word: its key, and its words by their numbers.
+pub trait Word: Copy {
+    ghost KEY: { ℕ };
+
+    ghost word: { ℕ → Self };
+
+    const KEY: usize;
+
+    fn from_number(n: usize) -> Self
+        ensures { result ≡ word n };
 }
 
-// A word, by its number among those of its key.
-pub fn put_word(fields: &mut [usize; 32], at: usize, key: usize, v: &[u8]) -> Fault
-    ensures value { result ≡ word_fault (word_number key v.now) }
-    ensures fields_after { fields.new ≡ word_put at (word_number key v.now) fields.old }
+impl Word for SslMode {
+    ghost KEY = { 6 };
+
+    ghost word = { ssl_mode_of };
+
+    const KEY: usize = 6;
+
+    fn from_number(n: usize) -> SslMode {
+        match n {
+            1 => SslMode::Disable,
+            2 => SslMode::Prefer,
+            _ => SslMode::Require,
+        }
+    }
+}
+
+impl Word for SslNegotiation {
+    ghost KEY = { 7 };
+
+    ghost word = { ssl_negotiation_of };
+
+    const KEY: usize = 7;
+
+    fn from_number(n: usize) -> SslNegotiation {
+        match n {
+            1 => SslNegotiation::Postgres,
+            _ => SslNegotiation::Direct,
+        }
+    }
+}
+
+impl Word for TargetSessionAttrs {
+    ghost KEY = { 17 };
+
+    ghost word = { target_session_attrs_of };
+
+    const KEY: usize = 17;
+
+    fn from_number(n: usize) -> TargetSessionAttrs {
+        match n {
+            1 => TargetSessionAttrs::Any,
+            2 => TargetSessionAttrs::ReadWrite,
+            _ => TargetSessionAttrs::ReadOnly,
+        }
+    }
+}
+
+impl Word for ChannelBinding {
+    ghost KEY = { 18 };
+
+    ghost word = { channel_binding_of };
+
+    const KEY: usize = 18;
+
+    fn from_number(n: usize) -> ChannelBinding {
+        match n {
+            1 => ChannelBinding::Disable,
+            2 => ChannelBinding::Prefer,
+            _ => ChannelBinding::Require,
+        }
+    }
+}
+
+impl Word for LoadBalanceHosts {
+    ghost KEY = { 19 };
+
+    ghost word = { load_balance_hosts_of };
+
+    const KEY: usize = 19;
+
+    fn from_number(n: usize) -> LoadBalanceHosts {
+        match n {
+            1 => LoadBalanceHosts::Disable,
+            _ => LoadBalanceHosts::Random,
+        }
+    }
+}
+
+// A text, kept where it stands; it is never refused.
+pub fn put_text(field: &mut Option<Place>, start: usize, len: usize) -> Result<(), Fault>
+    ensures value { result ≡ Ok tt }
+    ensures field_after { field.new ≡ Some (record { start = start; len = len }) }
 {
-    let n = names::word_number(key, v);
+    *field = Some(Place { start, len });
+    Ok(())
+}
+
+// A word of the field's key.
+pub fn put_word<W: Word>(field: &mut W, v: &[u8]) -> Result<(), Fault>
+    ensures value { result ≡ word_fault (word_number W.KEY v.now) }
+    ensures field_after { field.new ≡ word_after W.word field.old (word_number W.KEY v.now) }
+{
+    let n = names::word_number(W::KEY, v);
     if n == 0 {
-        return Fault::Word;
+        return Err(Fault::Word);
     }
-    if 32 <= at {
-        return Fault::NoFault;
-    }
-    fields[at] = n;
-    Fault::NoFault
+    *field = W::from_number(n);
+    Ok(())
 }
 
 // The seconds of a signed number: only a positive one is cast, zero or below is 0.
 fn seconds_of(t: i64) -> u64
     ensures { result ≡ seconds_of t }
 {
-    if t > 0 {
-        return t as u64;
-    }
-    0
+    if t > 0 { t as u64 } else { 0 }
 }
 
-// The seconds that a value says, or why it says none.
-fn read_seconds(v: &[u8]) -> Number
-    ensures { result ≡ seconds_in v.now }
+// The seconds that a value says.
+fn read_seconds(v: &[u8]) -> Result<u64, Fault>
+    ensures { result ≡ number_or_fault (seconds_in v.now) }
 {
-    match integer::read_signed(v) {
-        Signed::Is(t) => Number::Is(seconds_of(t)),
-        Signed::Form => Number::Form,
-        Signed::Range => Number::Range,
-    }
+    Ok(seconds_of(integer::read_signed(v)?))
 }
 
-// A time, whose two cells begin at `at`; 0 seconds leave it as it stands.
-pub fn put_time(fields: &mut [usize; 32], at: usize, v: &[u8]) -> Fault
+// A time; 0 seconds leave it as it stands.
+pub fn put_time(field: &mut Option<u64>, v: &[u8]) -> Result<(), Fault>
     ensures value { result ≡ number_fault (seconds_in v.now) }
-    ensures fields_after { fields.new ≡ time_put at (seconds_in v.now) fields.old }
+    ensures field_after { field.new ≡ time_after field.old (seconds_in v.now) }
 {
-    match read_seconds(v) {
-        Number::Is(seconds) => {
-            if seconds == 0 {
-                return Fault::NoFault;
-            }
-            if 31 <= at {
-                return Fault::NoFault;
-            }
-            fields[at] = 1;
-            fields[at + 1] = seconds as usize;
-            Fault::NoFault
-        }
-        Number::Form => Fault::Form,
-        Number::Range => Fault::Range,
+    let seconds = read_seconds(v)?;
+    if seconds != 0 {
+        *field = Some(seconds);
     }
+    Ok(())
 }
 
-// Key 14, keepalives_idle.
-pub fn put_idle(fields: &mut [usize; 32], v: &[u8]) -> Fault
+// Key 14, keepalives_idle, which 0 seconds leave as it stands.
+pub fn put_idle(field: &mut u64, v: &[u8]) -> Result<(), Fault>
     ensures value { result ≡ number_fault (seconds_in v.now) }
-    ensures fields_after { fields.new ≡ idle_put (seconds_in v.now) fields.old }
+    ensures field_after { field.new ≡ idle_after field.old (seconds_in v.now) }
 {
-    match read_seconds(v) {
-        Number::Is(idle) => {
-            if idle == 0 {
-                return Fault::NoFault;
-            }
-            fields[26] = idle as usize;
-            Fault::NoFault
-        }
-        Number::Form => Fault::Form,
-        Number::Range => Fault::Range,
+    let idle = read_seconds(v)?;
+    if idle != 0 {
+        *field = idle;
     }
+    Ok(())
 }
 
-// Key 13, keepalives.
-pub fn put_keepalives(fields: &mut [usize; 32], v: &[u8]) -> Fault
+// Key 13, keepalives: 0 is off.
+pub fn put_keepalives(field: &mut bool, v: &[u8]) -> Result<(), Fault>
     ensures value { result ≡ number_fault (unsigned_of (2 ^ 64 - 1) v.now) }
-    ensures fields_after { fields.new ≡ keepalives_put (unsigned_of (2 ^ 64 - 1) v.now) fields.old }
+    ensures field_after { field.new ≡ keepalives_after field.old (unsigned_of (2 ^ 64 - 1) v.now) }
 {
-    match number::read_unsigned(v, 18446744073709551615) {
-        Number::Is(n) => {
-            fields[27] = n as usize;
-            Fault::NoFault
-        }
-        Number::Form => Fault::Form,
-        Number::Range => Fault::Range,
-    }
+    *field = 0 < number::read_unsigned(v, u64::MAX)?;
+    Ok(())
 }
 
 // Key 16, keepalives_retries.
-pub fn put_retries(fields: &mut [usize; 32], fours: &mut [u32; 17], v: &[u8]) -> Fault
+pub fn put_retries(field: &mut Option<u32>, v: &[u8]) -> Result<(), Fault>
     ensures value { result ≡ number_fault (unsigned_of (2 ^ 32 - 1) v.now) }
-    ensures fields_after { fields.new ≡ retries_put (unsigned_of (2 ^ 32 - 1) v.now) fields.old }
-    ensures fours_after { fours.new ≡ retries_in (unsigned_of (2 ^ 32 - 1) v.now) fours.old }
+    ensures field_after { field.new ≡ retries_after field.old (unsigned_of (2 ^ 32 - 1) v.now) }
 {
-    match integer::read_u32(v) {
-        Number32::Is(n) => {
-            fields[28] = 1;
-            fours[0] = n;
-            Fault::NoFault
-        }
-        Number32::Form => Fault::Form,
-        Number32::Range => Fault::Range,
-    }
+    *field = Some(integer::read_u32(v)?);
+    Ok(())
 }

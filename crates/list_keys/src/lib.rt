@@ -1,55 +1,115 @@
-// One setting of a key that changes a list, applied to the rows that stand for a record.
-// After a fault nothing is promised of the rows: the text is refused, and nobody reads them.
+// The pieces of a value that a record's lists are made of: what each stands for, and all of them appended.
 #![tactic(auto)]
 
-ghost use Rattle.std.specs.Prelude.{ℕ, ◌+◌, ◌≤◌, ◌≡◌, List, length};
-ghost use Rattle.apply.specs.Apply.{applied};
-ghost use Rattle.rows.specs.Rows.{config_of};
-ghost use Rattle.list_keys.specs.Sets.{Sets};
+ghost use Rattle.std.specs.Prelude.{ℕ, ◌≡◌, ◌+◌, ◌≤◌, List, length};
+ghost use Rattle.lists.specs.declared.Fault.{Fault};
+ghost use Rattle.lists.specs.declared.Fault.TheVariants.{ManyHosts, ManyHostaddrs, ManyPorts};
+ghost use Rattle.lists.specs.Append.{Piece, slots, append, append_all, listed};
+ghost use Rattle.lists.specs.Lists.{host_of, host_piece, address_piece, port_piece};
+ghost use Rattle.list_keys.specs.Pieces.{entry_or_fault, Adds};
 
-use lists::Fault;
+use address::Address;
+use lists::{Fault, Host, HostKind, Place};
 
-// Key 8, host: the pieces of a value that stands from `start` on.
-pub fn put_hosts(fields: &mut [usize; 32], hosts: &mut [usize; 48], v: &[u8], start: usize) -> Fault
-    requires { (length fields.old ≡ 32) × (start + length v.now ≤ 18446744073709551615) }
-    ensures { (sixes fours ports : List ℕ) → Sets result (applied 8 v.now start (config_of fields.old hosts.old sixes fours ports)) (config_of fields.new hosts.new sixes fours ports) }
-{
-    let a = row_lists::add_hosts(hosts, fields[29], v, start);
-    fields[29] = a.count;
-    a.fault
+// What stands between two pieces of a value.
+const COMMA: u8 = b',';
+
+// An entry of a list: what a piece of a value says that stands from a place on, and the fault where there is no room.
+pub trait Entry: Copy {
+    ghost FULL: { Fault };
+
+    ghost means: { ℕ → List ℕ → Piece Self };
+
+    const FULL: Fault;
+
+    fn read(start: usize, piece: &[u8]) -> Result<Self, Fault>
+        ensures { result ≡ entry_or_fault (means start piece.now) };
 }
 
-// One host from a URI, whose commas are its own.
-pub fn put_host(fields: &mut [usize; 32], hosts: &mut [usize; 48], v: &[u8], start: usize) -> Fault
-    requires { length fields.old ≡ 32 }
-    ensures { (sixes fours ports : List ℕ) → Sets result (applied 20 v.now start (config_of fields.old hosts.old sixes fours ports)) (config_of fields.new hosts.new sixes fours ports) }
+// A host is a Unix path where its first byte is a slash, else TCP.
+fn host_of(first: u8, start: usize, len: usize) -> Host
+    ensures { result ≡ host_of first start len }
 {
-    let a = row_lists::add_host(hosts, fields[29], v, start);
-    fields[29] = a.count;
-    a.fault
+    let place = Place { start, len };
+    let kind = if first == b'/' {
+        HostKind::Unix(place)
+    } else {
+        HostKind::Tcp(place)
+    };
+    Host { kind }
 }
 
-// Key 9, hostaddr.
-pub fn put_hostaddrs(
-    fields: &mut [usize; 32],
-    sixes: &mut [u64; 48],
-    fours: &mut [u32; 17],
+impl Entry for Host {
+    ghost FULL = { ManyHosts };
+
+    ghost means = { host_piece };
+
+    const FULL: Fault = Fault::ManyHosts;
+
+    fn read(start: usize, piece: &[u8]) -> Result<Host, Fault> {
+        Ok(host_of(byte::at(piece, 0), start, piece.len()))
+    }
+}
+
+impl Entry for Address {
+    ghost FULL = { ManyHostaddrs };
+
+    ghost means = { λ start. address_piece };
+
+    const FULL: Fault = Fault::ManyHostaddrs;
+
+    fn read(_start: usize, piece: &[u8]) -> Result<Address, Fault> {
+        address::read_address(piece).ok_or(Fault::NoAddress)
+    }
+}
+
+// A port; an empty piece is 5432.
+impl Entry for u16 {
+    ghost FULL = { ManyPorts };
+
+    ghost means = { λ start. port_piece };
+
+    const FULL: Fault = Fault::ManyPorts;
+
+    fn read(_start: usize, piece: &[u8]) -> Result<u16, Fault> {
+        if piece.is_empty() {
+            return Ok(5432);
+        }
+        Ok(integer::read_u16(piece)?)
+    }
+}
+
+// One piece appended, which stands from `start` on.
+pub fn append<T: Entry>(
+    list: &mut [T; 16],
+    count: &mut usize,
+    start: usize,
+    piece: &[u8],
+) -> Result<(), Fault>
+    ensures value { result ≡ (append T.FULL (slots list.old count.old) (T.means start piece.now)).fault }
+    ensures list_after { slots list.new count.new ≡ (append T.FULL (slots list.old count.old) (T.means start piece.now)).slots }
+{
+    lists::keep(list, count, T::read(start, piece)?, T::FULL)
+}
+
+// The pieces between commas of a value that stands from `start` on, left to right: each is judged before room for it.
+// After a fault nothing is promised of the list: the text is refused, and nobody reads it.
+pub fn append_all<T: Entry>(
+    list: &mut [T; 16],
+    count: &mut usize,
+    start: usize,
     v: &[u8],
-) -> Fault
-    requires { length fields.old ≡ 32 }
-    ensures { (hosts ports : List ℕ) (start : ℕ) → Sets result (applied 9 v.now start (config_of fields.old hosts sixes.old fours.old ports)) (config_of fields.new hosts sixes.new fours.new ports) }
+) -> Result<(), Fault>
+    requires { start + length v.now ≤ 18446744073709551615 }
+    ensures { Adds result (slots list.new count.new) (append_all T.FULL (slots list.old count.old) (listed T.means start v.now)) }
 {
-    let a = row_lists::add_addresses(sixes, fours, fields[30], v);
-    fields[30] = a.count;
-    a.fault
-}
-
-// Key 10, port.
-pub fn put_ports(fields: &mut [usize; 32], ports: &mut [u16; 16], v: &[u8]) -> Fault
-    requires { length fields.old ≡ 32 }
-    ensures { (hosts sixes fours : List ℕ) (start : ℕ) → Sets result (applied 10 v.now start (config_of fields.old hosts sixes fours ports.old)) (config_of fields.new hosts sixes fours ports.new) }
-{
-    let a = row_lists::add_ports(ports, fields[31], v);
-    fields[31] = a.count;
-    a.fault
+    let mut at = 0;
+    loop {
+        let end = split::find(v, at, COMMA);
+        append(list, count, start + at, &v[at..end])?;
+        if v.len() <= end {
+            return Ok(());
+        }
+        at = end + 1;
+    }
 }

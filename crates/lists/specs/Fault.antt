@@ -2,6 +2,7 @@
 -- Assumes nothing.
 use Rattle.std.specs.Prelude.{ℕ, Bool, true, false, eqb, Result, Ok, Err, ⊤}
 use Rattle.byte.specs.Byte.{pick}
+use Rattle.number.specs.declared.NumberError.{NumberError}
 use Rattle.lists.specs.declared.Fault.{Fault}
 use Rattle.lists.specs.declared.Fault.TheVariants.{UnknownKey, Word, Form, Range, NoAddress, ManyHosts, ManyHostaddrs, ManyPorts}
 
@@ -29,3 +30,8 @@ number_of (Err f) = fault_number f
 -- "a key number (0 but for 5)"
 abbrev pub key_of : Result ⊤ Fault → ℕ → ℕ
 key_of r key = pick (eqb (number_of r) 5) key 0
+
+-- a number of wrong form, or beyond its range
+abbrev pub fault_from : NumberError → Fault
+fault_from NumberError.Form = Form
+fault_from NumberError.Range = Range

@@ -1,13 +1,10 @@
 -- Hosts, addresses and ports: what a piece of each stands for, and the lists after a value's pieces.
 -- Assumes nothing.
-use Rattle.std.specs.Prelude.{ℕ, List, eqb, length, get_or, Result, Ok, Err, ⊤}
+use Rattle.std.specs.Prelude.{ℕ, List, eqb, length, get_or, Option, Some, None, Result, Ok, Err, ⊤}
 use Rattle.byte.specs.Byte.{pick}
-use Rattle.number.specs.declared.Number.{Number}
-use Rattle.integer.specs.declared.Number16.{Number16}
+use Rattle.number.specs.declared.NumberError.{NumberError}
 use Rattle.number.specs.Number.{unsigned_of}
-use Rattle.integer.specs.Integer.{as16}
 use Rattle.address.specs.declared.Address.{Address}
-use Rattle.address.specs.declared.AddressRead.{AddressRead}
 use Rattle.address.specs.Address.{address_of}
 use Rattle.lists.specs.declared.Fault.{Fault}
 use Rattle.lists.specs.declared.HostKind.{HostKind}
@@ -15,24 +12,24 @@ use Rattle.lists.specs.declared.Host.{Host}
 use Rattle.lists.specs.declared.Hosts.{Hosts}
 use Rattle.lists.specs.declared.Addresses.{Addresses}
 use Rattle.lists.specs.declared.Ports.{Ports}
+use Rattle.lists.specs.Fault.{fault_from}
 use Rattle.lists.specs.Append.{Piece, good, bad, Slots, More, kept, append, append_all, listed}
 
 -- "port is 0 to 65,535"; "An empty port piece is 5432."
-abbrev pub port_read : Number → Piece ℕ
-port_read (Number.Is n) = good n
-port_read Number.Form = bad Fault.Form
-port_read Number.Range = bad Fault.Range
+abbrev pub port_read : Result ℕ NumberError → Piece ℕ
+port_read (Ok n) = good n
+port_read (Err e) = bad (fault_from e)
 
 unfoldable pub port_piece : List ℕ → Piece ℕ
 port_piece v = pick (eqb (length v) 0) (good 5432) (port_read (unsigned_of 65535 v))
 
--- the same as a number of 16 bits
-unfoldable pub port_number : List ℕ → Number16
-port_number v = pick (eqb (length v) 0) (Number16.Is 5432) (as16 (unsigned_of 65535 v))
+-- the same as a number
+unfoldable pub port_number : List ℕ → Result ℕ NumberError
+port_number v = pick (eqb (length v) 0) (Ok 5432) (unsigned_of 65535 v)
 
-abbrev pub address_read : AddressRead → Piece Address
-address_read (AddressRead.Is a) = good a
-address_read AddressRead.Not = bad Fault.NoAddress
+abbrev pub address_read : Option Address → Piece Address
+address_read (Some a) = good a
+address_read None = bad Fault.NoAddress
 
 unfoldable pub address_piece : List ℕ → Piece Address
 address_piece v = address_read (address_of v)

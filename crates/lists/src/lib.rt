@@ -1,12 +1,13 @@
 // The three lists of a record, hosts, addresses and ports: sixteen places each, of which a count says how many are used.
 #![tactic(auto)]
 
-ghost use Rattle.std.specs.Prelude.{◌≡◌, length, take};
-ghost use Rattle.lists.specs.Fault.{fault_number, number_of, key_of};
+ghost use Rattle.std.specs.Prelude.{◌≡◌, take};
+ghost use Rattle.lists.specs.Fault.{fault_number, number_of, key_of, fault_from};
 ghost use Rattle.lists.specs.Append.{slots, kept};
 ghost use Rattle.lists.specs.Lists.{port_kept, ports_or_fault, address_kept, addresses_or_fault};
 
 use address::Address;
+use number::NumberError;
 
 // Why a setting is refused.
 #[derive(Clone, Copy, Debug, PartialEq, Eq, Hash)]
@@ -69,6 +70,17 @@ impl Fault {
             Fault::ManyHosts => 13,
             Fault::ManyHostaddrs => 14,
             Fault::ManyPorts => 15,
+        }
+    }
+}
+
+impl From<NumberError> for Fault {
+    ghost from_gives = { λ e fault. fault ≡ fault_from e };
+
+    fn from(e: NumberError) -> Fault {
+        match e {
+            NumberError::Form => Fault::Form,
+            NumberError::Range => Fault::Range,
         }
     }
 }

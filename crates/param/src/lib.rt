@@ -1,64 +1,45 @@
-// One setting applied to the rows that stand for a record, by the number of its key. The cells of each field stand in crate rows.
-// After a fault nothing is promised of the rows: the text is refused, and nobody reads them.
+// One setting applied to the record, by the number of its key.
 #![tactic(auto)]
 
-ghost use Rattle.std.specs.Prelude.{◌≡◌, length};
+ghost use Rattle.std.specs.Prelude.{◌≡◌};
 ghost use Rattle.byte.specs.Byte.{part_of};
 ghost use Rattle.apply.specs.Apply.{applied};
-ghost use Rattle.rows.specs.Rows.{config_of};
-ghost use Rattle.list_keys.specs.Sets.{Sets};
+ghost use Rattle.param.specs.Sets.{Sets};
 
+use config::Config;
+use field_keys::{put_idle, put_keepalives, put_retries, put_text, put_time, put_word};
+use list_keys::{append, append_all};
 use lists::Fault;
 
-// A row lent as a slice tells its length, which one behind a `&mut` does not: these say it, and do nothing.
-fn whole_fields(fields: &[usize])
-    requires { length fields.now ≡ 32 }
-    ensures { length fields.now ≡ 32 }
-{}
-
-fn whole_fours(fours: &[u32])
-    requires { length fours.now ≡ 17 }
-    ensures { length fours.now ≡ 17 }
-{}
-
 // Applies the setting of a kind (1 to 19 its key, 20 one host from a URI) whose value is the part of the buffer from `start` up to `end`.
-pub fn param(
-    fields: &mut [usize; 32],
-    hosts: &mut [usize; 48],
-    sixes: &mut [u64; 48],
-    fours: &mut [u32; 17],
-    ports: &mut [u16; 16],
-    kind: usize,
-    buffer: &[u8],
-    start: usize,
-    end: usize,
-) -> Fault
-    ensures { Sets result (applied kind (part_of start end buffer.now) start (config_of fields.old hosts.old sixes.old fours.old ports.old)) (config_of fields.new hosts.new sixes.new fours.new ports.new) }
+// A kind stays a number: any other one is promised to be an unknown key, and a narrower type would ask more of callers.
+// After a fault nothing is promised of the record: the text is refused, and nobody reads it.
+pub fn param(config: &mut Config, kind: usize, buffer: &[u8], start: usize, end: usize) -> Result<(), Fault>
+    ensures { Sets result (applied kind (part_of start end buffer.now) start config.old) config.new }
 {
-    whole_fields(fields);
-    whole_fours(fours);
     let v = byte::part(buffer, start, end);
+    let len = v.len();
     match kind {
-        1 => field_keys::put_text(fields, 0, start, v.len()),
-        2 => field_keys::put_text(fields, 3, start, v.len()),
-        3 => field_keys::put_text(fields, 6, start, v.len()),
-        4 => field_keys::put_text(fields, 9, start, v.len()),
-        5 => field_keys::put_text(fields, 12, start, v.len()),
-        6 => field_keys::put_word(fields, 15, 6, v),
-        7 => field_keys::put_word(fields, 16, 7, v),
-        8 => list_keys::put_hosts(fields, hosts, v, start),
-        9 => list_keys::put_hostaddrs(fields, sixes, fours, v),
-        10 => list_keys::put_ports(fields, ports, v),
-        11 => field_keys::put_time(fields, 20, v),
-        12 => field_keys::put_time(fields, 22, v),
-        13 => field_keys::put_keepalives(fields, v),
-        14 => field_keys::put_idle(fields, v),
-        15 => field_keys::put_time(fields, 24, v),
-        16 => field_keys::put_retries(fields, fours, v),
-        17 => field_keys::put_word(fields, 17, 17, v),
-        18 => field_keys::put_word(fields, 18, 18, v),
-        19 => field_keys::put_word(fields, 19, 19, v),
-        20 => list_keys::put_host(fields, hosts, v, start),
-        _ => Fault::UnknownKey,
+        1 => put_text(&mut config.user, start, len),
+        2 => put_text(&mut config.password, start, len),
+        3 => put_text(&mut config.dbname, start, len),
+        4 => put_text(&mut config.options, start, len),
+        5 => put_text(&mut config.application_name, start, len),
+        6 => put_word(&mut config.ssl_mode, v),
+        7 => put_word(&mut config.ssl_negotiation, v),
+        8 => append_all(&mut config.host.list, &mut config.host.count, start, v),
+        9 => append_all(&mut config.hostaddr.list, &mut config.hostaddr.count, 0, v),
+        10 => append_all(&mut config.port.list, &mut config.port.count, 0, v),
+        11 => put_time(&mut config.connect_timeout, v),
+        12 => put_time(&mut config.tcp_user_timeout, v),
+        13 => put_keepalives(&mut config.keepalives, v),
+        14 => put_idle(&mut config.keepalives_idle, v),
+        15 => put_time(&mut config.keepalives_interval, v),
+        16 => put_retries(&mut config.keepalives_retries, v),
+        17 => put_word(&mut config.target_session_attrs, v),
+        18 => put_word(&mut config.channel_binding, v),
+        19 => put_word(&mut config.load_balance_hosts, v),
+        20 => append(&mut config.host.list, &mut config.host.count, start, v),
+        _ => Err(Fault::UnknownKey),
     }
 }

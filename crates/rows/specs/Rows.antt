@@ -1,13 +1,12 @@
--- The record that rows of numbers stand for: while a text is read its settings are kept in five rows that the reader lends, and no record is moved.
+-- The record that five rows of numbers stand for.
 -- Assumes nothing.
-use Rattle.std.specs.Prelude.{ℕ, ◌+◌, Bool, List, [], ◌∷◌, ltb, get_or, drop}
+use Rattle.std.specs.Prelude.{ℕ, ◌+◌, Bool, List, [], ◌∷◌, ltb, get_or, drop, Option, Some, None}
 use Rattle.byte.specs.Byte.{pick}
 use Rattle.address.specs.declared.Kind.{Kind}
 use Rattle.address.specs.declared.Address.{Address}
+use Rattle.lists.specs.declared.Place.{Place}
 use Rattle.lists.specs.declared.HostKind.{HostKind}
 use Rattle.lists.specs.declared.Host.{Host}
-use Rattle.config.specs.declared.Text.{Text}
-use Rattle.config.specs.declared.Seconds.{Seconds}
 use Rattle.config.specs.declared.Config.{Config}
 use Rattle.apply.specs.Apply.{ssl_mode_of, ssl_negotiation_of, target_session_attrs_of, channel_binding_of, load_balance_hosts_of}
 
@@ -16,12 +15,12 @@ abbrev pub is_on : ℕ → Bool
 is_on n = ltb 0 n
 
 -- the row `fields`, three numbers a text (whether it is set, its start, its length) ..
-abbrev pub text_at : List ℕ → ℕ → Text
-text_at f at = record { set = is_on (get_or f at 0); place = record { start = get_or f (at + 1) 0; len = get_or f (at + 2) 0 } }
+abbrev pub text_at : List ℕ → ℕ → Option Place
+text_at f at = pick (is_on (get_or f at 0)) (Some (record { start = get_or f (at + 1) 0; len = get_or f (at + 2) 0 })) None
 
 -- .. and two a time
-abbrev pub time_at : List ℕ → ℕ → Seconds
-time_at f at = record { set = is_on (get_or f at 0); seconds = get_or f (at + 1) 0 }
+abbrev pub time_at : List ℕ → ℕ → Option ℕ
+time_at f at = pick (is_on (get_or f at 0)) (Some (get_or f (at + 1) 0)) None
 
 -- the row `hosts`, three numbers a host: 0 for TCP, its start, its length
 abbrev pub host_at : ℕ → ℕ → ℕ → Host
@@ -54,8 +53,8 @@ config_of f hosts sixes fours ports =
       dbname = text_at f 6;
       options = text_at f 9;
       application_name = text_at f 12;
-      ssl_mode = record { word = ssl_mode_of (get_or f 15 0) };
-      ssl_negotiation = record { word = ssl_negotiation_of (get_or f 16 0) };
+      ssl_mode = ssl_mode_of (get_or f 15 0);
+      ssl_negotiation = ssl_negotiation_of (get_or f 16 0);
       host = record { list = hosts_of hosts; count = get_or f 29 0 };
       hostaddr = record { list = addresses_of sixes (drop 1 fours); count = get_or f 30 0 };
       port = record { list = ports; count = get_or f 31 0 };
@@ -64,10 +63,10 @@ config_of f hosts sixes fours ports =
       keepalives = is_on (get_or f 27 0);
       keepalives_idle = get_or f 26 0;
       keepalives_interval = time_at f 24;
-      keepalives_retries = record { set = is_on (get_or f 28 0); retries = get_or fours 0 0 };
-      target_session_attrs = record { word = target_session_attrs_of (get_or f 17 0) };
-      channel_binding = record { word = channel_binding_of (get_or f 18 0) };
-      load_balance_hosts = record { word = load_balance_hosts_of (get_or f 19 0) };
+      keepalives_retries = pick (is_on (get_or f 28 0)) (Some (get_or fours 0 0)) None;
+      target_session_attrs = target_session_attrs_of (get_or f 17 0);
+      channel_binding = channel_binding_of (get_or f 18 0);
+      load_balance_hosts = load_balance_hosts_of (get_or f 19 0);
     }
 
 -- the row `fields` of the default record; its other rows are zeros

@@ -1,3 +1,0 @@
-pub mod Seconds
-pub mod Retries
-pub mod Fields
