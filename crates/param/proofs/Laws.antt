@@ -1,14 +1,13 @@
 -- The record after a setting, by the number of its kind, also of one that is unknown.
 -- Assumes nothing.
 use Prim.Native.Nat.{ℕ, zero, suc, ◌+◌, ◌^◌, ◌<◌, ◌≤◌}
-use mathlib.Core.Path.{◌≡◌, refl, ap}
+use mathlib.Core.Path.{◌≡◌, ap}
 use mathlib.Core.Bool.{Bool, true, false}
 use mathlib.Core.List.{List}
 use native.Mathlib.Omega.{arith}
-use lib.Dec.{eqb}
 use lib.ListN.{length}
 use borrow.Author.Tests.{ne_eqb}
-use Rattle.std.specs.Prelude.{Result, Ok, Err, ⊤}
+use Rattle.std.specs.Prelude.{Result, Err, ⊤}
 use Rattle.byte.specs.Byte.{part_of}
 use Rattle.byte.proofs.Parts.{part-most}
 use Rattle.address.specs.declared.Address.{Address}
@@ -18,8 +17,8 @@ use Rattle.lists.specs.declared.Hosts.{Hosts}
 use Rattle.lists.specs.declared.Addresses.{Addresses}
 use Rattle.lists.specs.declared.Ports.{Ports}
 use Rattle.lists.specs.Fault.{is_fine}
-use Rattle.lists.specs.Append.{slots, append, append_all, listed, More}
-use Rattle.lists.specs.Lists.{host_piece, address_piece, port_piece, host_slots, address_slots, port_slots, host_after, host_pushed, hosts_after, addresses_after, ports_after}
+use Rattle.lists.specs.Append.{slots, append_all, listed}
+use Rattle.lists.specs.Lists.{host_piece, address_piece, port_piece, host_slots, address_slots, port_slots, hosts_after, addresses_after, ports_after}
 use Rattle.config.specs.declared.Config.{Config}
 use Rattle.apply.specs.Apply.{Applied, word_fault, fault_of, after, applied}
 use Rattle.apply.proofs.Laws.{None, beyond, unknown}
@@ -44,7 +43,6 @@ word-is of old (suc n) e = rw (ne_eqb (suc n) 0 (λ z. absurd (omega arith)))
 
 -- a list after a value's pieces
 module _ (r : Result ⊤ Fault) (n start : ℕ) (v : List ℕ) where
-
   pub hosts-are : (h : Hosts) (l : List Host) → Adds r (slots l n) (append_all Fault.ManyHosts (host_slots h) (listed host_piece start v))
       → (r ≡ (hosts_after h start v).fault) × (is_fine (hosts_after h start v).fault ≡ true → ◌≡◌ {A = Hosts} (record { list = l; count = n }) (hosts_after h start v).hosts)
   unfolding hosts_after

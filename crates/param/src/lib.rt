@@ -14,7 +14,13 @@ use lists::Fault;
 // Applies the setting of a kind (1 to 19 its key, 20 one host from a URI) whose value is the part of the buffer from `start` up to `end`.
 // A kind stays a number: any other one is promised to be an unknown key, and a narrower type would ask more of callers.
 // After a fault nothing is promised of the record: the text is refused, and nobody reads it.
-pub fn param(config: &mut Config, kind: usize, buffer: &[u8], start: usize, end: usize) -> Result<(), Fault>
+pub fn param(
+    config: &mut Config,
+    kind: usize,
+    buffer: &[u8],
+    start: usize,
+    end: usize,
+) -> Result<(), Fault>
     ensures { Sets result (applied kind (part_of start end buffer.now) start config.old) config.new }
 {
     let v = byte::part(buffer, start, end);

@@ -1,4 +1,4 @@
-use Rattle.std.proofs.Common.{rules, arith, ◌∙◌}
+use Rattle.std.proofs.Common.{rules, arith}
 use Rattle.lists.specs.Lists.{host_after, host_pushed}
 use Rattle.apply.specs.Apply.{fault_of, after}
 use Rattle.param.proofs.Laws.{by_kind, other, word-is, hosts-are, addresses-are, ports-are, within}
