@@ -1,15 +1,12 @@
 -- The leaves' answers as a C caller takes them: plain records of numbers.
 -- Assumes nothing.
-use Rattle.std.specs.Prelude.{ℕ, ℤ, pos}
+use Rattle.std.specs.Prelude.{ℕ, ℤ, pos, Option, Some, None, Result, Ok, Err}
 use Rattle.utf8.specs.declared.Char.{Char}
 use Rattle.utf8_state.specs.declared.State.{State}
 use Rattle.percent_check.specs.declared.Checked.{Checked}
-use Rattle.number.specs.declared.Number.{Number}
-use Rattle.integer.specs.declared.Number16.{Number16}
-use Rattle.integer.specs.declared.Number32.{Number32}
-use Rattle.integer.specs.declared.Signed.{Signed}
+use Rattle.number.specs.declared.NumberError.{NumberError}
 use Rattle.address.specs.declared.Kind.{Kind}
-use Rattle.address.specs.declared.AddressRead.{AddressRead}
+use Rattle.address.specs.declared.Address.{Address}
 use Rattle.probe.specs.declared.Symbol.{Symbol}
 use Rattle.probe.specs.declared.Lacking.{Lacking}
 use Rattle.probe.specs.declared.Measured.{Measured}
@@ -40,25 +37,17 @@ abbrev pub integer : ℕ → ℤ → Integer
 integer kind value = record { kind = kind; value = value }
 
 -- a number that was read is kind 0, a fault of form kind 1, one of range kind 2
-abbrev pub told : Number → Unsigned
-told (Number.Is n) = unsigned 0 n
-told Number.Form = unsigned 1 0
-told Number.Range = unsigned 2 0
+abbrev pub fault_kind : NumberError → ℕ
+fault_kind NumberError.Form = 1
+fault_kind NumberError.Range = 2
 
-abbrev pub told16 : Number16 → Unsigned
-told16 (Number16.Is n) = unsigned 0 n
-told16 Number16.Form = unsigned 1 0
-told16 Number16.Range = unsigned 2 0
+abbrev pub told : Result ℕ NumberError → Unsigned
+told (Ok n) = unsigned 0 n
+told (Err e) = unsigned (fault_kind e) 0
 
-abbrev pub told32 : Number32 → Unsigned
-told32 (Number32.Is n) = unsigned 0 n
-told32 Number32.Form = unsigned 1 0
-told32 Number32.Range = unsigned 2 0
-
-abbrev pub told_signed : Signed → Integer
-told_signed (Signed.Is n) = integer 0 n
-told_signed Signed.Form = integer 1 (pos 0)
-told_signed Signed.Range = integer 2 (pos 0)
+abbrev pub told_signed : Result ℤ NumberError → Integer
+told_signed (Ok n) = integer 0 n
+told_signed (Err e) = integer (fault_kind e) (pos 0)
 
 abbrev pub located : ℕ → ℕ → ℕ → Located
 located kind high low = record { kind = kind; high = high; low = low }
@@ -69,6 +58,6 @@ told_kind (Kind.V4 v) = located 4 0 v
 told_kind (Kind.V6 h l) = located 6 h l
 
 -- a text that is no address is kind 0
-abbrev pub told_address : AddressRead → Located
-told_address (AddressRead.Is a) = told_kind a.kind
-told_address AddressRead.Not = located 0 0 0
+abbrev pub told_address : Option Address → Located
+told_address (Some a) = told_kind a.kind
+told_address None = located 0 0 0

@@ -11,16 +11,15 @@ ghost use Rattle.utf8_state.specs.Bytewise.{start_state, next_state};
 ghost use Rattle.percent.specs.Percent.{decoded};
 ghost use Rattle.percent_check.specs.Plain.{checked};
 ghost use Rattle.number.specs.Number.{digits_in, unsigned_of};
-ghost use Rattle.integer.specs.Integer.{signed_of, as16, as32};
+ghost use Rattle.integer.specs.Integer.{signed_of};
 ghost use Rattle.decimal.specs.Decimal.{decimal, hex_digits};
 ghost use Rattle.address.specs.Address.{address_of};
 ghost use Rattle.names.specs.Names.{key_name, word_name};
 ghost use Rattle.names.specs.Find.{key_number, word_number, prefix_len};
-ghost use Rattle.probe.specs.Answers.{symbol, lacking, state_of, measured, told, told16, told32, told_signed, told_kind, told_address};
+ghost use Rattle.probe.specs.Answers.{symbol, lacking, state_of, measured, fault_kind, told, told_signed, told_kind, told_address};
 
-use address::{AddressRead, Kind};
-use integer::{Number16, Number32, Signed};
-use number::{Number, Radix};
+use address::Kind;
+use number::{NumberError, Radix};
 use utf8_state::State;
 
 #[repr(C)]
@@ -180,14 +179,25 @@ pub extern "C" fn probe_decode(src: &[u8], dst: &mut [u8], at: usize) -> usize
     percent_decode::decode(src, dst, at)
 }
 
+fn fault_kind(e: NumberError) -> u64
+    ensures { result ≡ fault_kind e }
+{
+    match e {
+        NumberError::Form => 1,
+        NumberError::Range => 2,
+    }
+}
+
 // What was read, told by numbers.
-fn tell(n: Number) -> Unsigned
+fn tell(n: Result<u64, NumberError>) -> Unsigned
     ensures { result ≡ told n }
 {
     match n {
-        Number::Is(v) => Unsigned { kind: 0, value: v },
-        Number::Form => Unsigned { kind: 1, value: 0 },
-        Number::Range => Unsigned { kind: 2, value: 0 },
+        Ok(value) => Unsigned { kind: 0, value },
+        Err(e) => Unsigned {
+            kind: fault_kind(e),
+            value: 0,
+        },
     }
 }
 
@@ -207,30 +217,16 @@ pub extern "C" fn probe_unsigned(s: &[u8], max: u64) -> Unsigned
 
 #[unsafe(no_mangle)]
 pub extern "C" fn probe_u16(s: &[u8]) -> Unsigned
-    ensures { result ≡ told16 (as16 (unsigned_of 65535 s.now)) }
+    ensures { result ≡ told (unsigned_of 65535 s.now) }
 {
-    match integer::read_u16(s) {
-        Number16::Is(v) => Unsigned {
-            kind: 0,
-            value: v as u64,
-        },
-        Number16::Form => Unsigned { kind: 1, value: 0 },
-        Number16::Range => Unsigned { kind: 2, value: 0 },
-    }
+    tell(integer::read_u16(s).map(u64::from))
 }
 
 #[unsafe(no_mangle)]
 pub extern "C" fn probe_u32(s: &[u8]) -> Unsigned
-    ensures { result ≡ told32 (as32 (unsigned_of (2 ^ 32 - 1) s.now)) }
+    ensures { result ≡ told (unsigned_of (2 ^ 32 - 1) s.now) }
 {
-    match integer::read_u32(s) {
-        Number32::Is(v) => Unsigned {
-            kind: 0,
-            value: v as u64,
-        },
-        Number32::Form => Unsigned { kind: 1, value: 0 },
-        Number32::Range => Unsigned { kind: 2, value: 0 },
-    }
+    tell(integer::read_u32(s).map(u64::from))
 }
 
 #[unsafe(no_mangle)]
@@ -238,9 +234,11 @@ pub extern "C" fn probe_signed(s: &[u8]) -> Integer
     ensures { result ≡ told_signed (signed_of s.now) }
 {
     match integer::read_signed(s) {
-        Signed::Is(v) => Integer { kind: 0, value: v },
-        Signed::Form => Integer { kind: 1, value: 0 },
-        Signed::Range => Integer { kind: 2, value: 0 },
+        Ok(value) => Integer { kind: 0, value },
+        Err(e) => Integer {
+            kind: fault_kind(e),
+            value: 0,
+        },
     }
 }
 
@@ -297,11 +295,8 @@ pub extern "C" fn probe_address(s: &[u8]) -> Located
     ensures { result ≡ told_address (address_of s.now) }
 {
     match address::read_address(s) {
-        AddressRead::Is(a) => {
-            let kind = a.kind;
-            tell_kind(kind)
-        }
-        AddressRead::Not => Located {
+        Some(a) => tell_kind(a.kind),
+        None => Located {
             kind: 0,
             high: 0,
             low: 0,
