@@ -9,7 +9,7 @@ ghost use Rattle.ending.specs.Ending.{ending};
 use lists::Fault;
 
 // What is told of a reading, without a record.
-#[derive(Clone, Copy)]
+#[derive(Clone, Copy, Debug, PartialEq, Eq, Hash)]
 pub struct Ending {
     pub number: usize,
     pub key: usize,
@@ -19,18 +19,7 @@ pub struct Ending {
 pub fn end(number: usize, key: usize, count: usize) -> Ending
     ensures { result ≡ ending number key count }
 {
-    Ending {
-        number: number,
-        key: key,
-        count: count,
-    }
-}
-
-// What is left of `n` behind `k`, 0 where `k` is past it.
-fn rest_of(n: usize, k: usize) -> usize
-    ensures { result ≡ n - k }
-{
-    if k <= n { n - k } else { 0 }
+    Ending { number, key, count }
 }
 
 // A text of `n` bytes refused: zeros up to its length.
@@ -42,22 +31,22 @@ pub fn refuse_text(decode: &mut [u8], n: usize, number: usize, key: usize, count
     end(number, key, count)
 }
 
-// A text of `n` bytes refused at a setting.
+// A text of `n` bytes refused at a setting of some kind. It takes the verdict, as it did before, and not a fault alone.
 pub fn refuse_setting(
     decode: &mut [u8],
     n: usize,
-    fault: Fault,
+    verdict: Result<(), Fault>,
     kind: usize,
     count: usize,
 ) -> Ending
-    ensures value { result ≡ ending (number_of fault) (key_of fault kind) count }
+    ensures value { result ≡ ending (number_of verdict) (key_of verdict kind) count }
     ensures decode_after { decode.new ≡ written decode.old 0 (replicate n 0) }
 {
     refuse_text(
         decode,
         n,
-        lists::number_of(fault),
-        lists::key_of(fault, kind),
+        lists::number_of(verdict),
+        lists::key_of(verdict, kind),
         count,
     )
 }
@@ -67,6 +56,6 @@ pub fn accept(decode: &mut [u8], n: usize, packed: usize, count: usize) -> Endin
     ensures value { result ≡ ending 0 0 count }
     ensures decode_after { decode.new ≡ written decode.old packed (replicate (n - packed) 0) }
 {
-    byte::clear(decode, packed, rest_of(n, packed));
+    byte::clear(decode, packed, n.saturating_sub(packed));
     end(0, 0, count)
 }

@@ -1,11 +1,14 @@
 -- The reader's loop: what holds while settings are applied, what a turn makes of it, and what holds where a turn stops.
 -- Assumes nothing.
-use Prim.Native.Nat.{ℕ, ◌+◌, ◌≤◌, ◌<◌}
+use Prim.Native.Nat.{ℕ, zero, suc, ◌+◌, ◌≤◌, ◌<◌}
 use mathlib.Core.Path.{◌≡◌, refl, sym, ap, ◌∙◌}
 use mathlib.Core.Bool.{Bool, true, false}
 use mathlib.Core.List.{List, [], ◌++◌, append-nil}
 use native.Mathlib.Omega.{arith}
 use lib.ListN.{length, length-append}
+use lib.Dec.{eqb}
+use borrow.Author.Tests.{ne_eqb}
+use Rattle.std.specs.Prelude.{Option, Some, None, Result, Ok, Err}
 use Rattle.byte.specs.Byte.{pick, part_of}
 use Rattle.byte.specs.Put.{put, written, after}
 use Rattle.setting.specs.Setting.{Setting, kind_of, value_of, Reading, ends, follows}
@@ -14,8 +17,7 @@ use Rattle.url_parser.specs.declared.UrlStep.{UrlStep}
 use Rattle.url_parser.specs.declared.UrlStep.TheVariants.{Given, Ended}
 use Rattle.lists.specs.Fault.{is_fine, number_of, key_of}
 use Rattle.config.specs.declared.Config.{Config}
-use Rattle.apply.specs.declared.Applied.{Applied}
-use Rattle.apply.specs.Apply.{applied}
+use Rattle.apply.specs.Apply.{Applied, applied}
 use Rattle.taking.specs.declared.Taken.{Taken}
 use Rattle.outcome.specs.Outcome.{kept, refused, ended, outcome, outcome_of}
 use Rattle.taking.specs.Taking.{keeps, next_at, value_at, taken_by, left_by, taken_of, taken_leaves}
@@ -33,8 +35,37 @@ pub record Going (s d₀ : List ℕ) (uri : Bool) (m : ℕ) (d : List ℕ) (st :
   pub comes : outcome_of s ≡ outcome st.config bytes n (from s uri st.url).settings (from s uri st.url).end
   pub counted : n + measure s uri st.url ≤ m
 
-never : {A : Type 0} → ◌≡◌ {A = Bool} true false → A
-never q = let z : ◌≡◌ {A = ℕ} 0 1 = cc in absurd (omega arith)
+-- an end with its number, as what is taken
+abbrev pub end_as : ℕ → Result (Option Taken) ℕ
+end_as k = pick (eqb k 0) (Ok None) (Err k)
+
+no_setting : {A : Type 0} → (k : ℕ) (t : Taken) → Ok (Some t) ≡ end_as k → A
+no_setting k t = by (eqb k 0)
+  where
+    by : {A : Type 0} → (b : Bool) → ◌≡◌ {A = Result (Option Taken) ℕ} (Ok (Some t)) (pick b (Ok None) (Err k)) → A
+    by true e = cc
+    by false e = cc
+
+no_end : {A : Type 0} → (k : ℕ) (t : Taken) → end_as k ≡ Ok (Some t) → A
+no_end k t e = no_setting k t (sym e)
+
+above : (k : ℕ) → eqb (suc k) 0 ≡ false
+above k = ne_eqb (suc k) 0 (λ z. absurd (omega arith))
+
+-- two ends that are one have one number
+same-end : (k j : ℕ) → end_as k ≡ end_as j → k ≡ j
+same-end zero zero e = refl
+same-end zero (suc j) e = let z : ◌≡◌ {A = Result (Option Taken) ℕ} (Ok None) (Err (suc j)) = rw (above j) at e in cc
+same-end (suc k) zero e = let z : ◌≡◌ {A = Result (Option Taken) ℕ} (Err (suc k)) (Ok None) = rw (above k) at e in cc
+same-end (suc k) (suc j) e = let z : ◌≡◌ {A = Result (Option Taken) ℕ} (Err (suc k)) (Err (suc j)) = rw (above k, above j) at e in cc
+
+-- an end that is not clean has a number other than 0
+pub broken-end : (j k : ℕ) → ◌≡◌ {A = Result (Option Taken) ℕ} (Err k) (end_as j) → (k ≡ 0 → ⊥) × (Err k ≡ end_as k)
+broken-end zero k e = cc
+broken-end (suc j) k e =
+    let f : ◌≡◌ {A = Result (Option Taken) ℕ} (Err k) (Err (suc j)) = rw (above j) at e in
+    let same : k ≡ suc j = cc in
+    (λ z. absurd (omega arith), rw (same, above j))
 
 -- a setting in front of others, applied or not
 module _ (c : Config) (b : List ℕ) (n : ℕ) (x : Setting) (r : Reading) (a : Applied) (is : a ≡ applied (kind_of x) (value_of x) (length b) c) where
@@ -124,41 +155,56 @@ module _ (s d₀ : List ℕ) (uri : Bool) (m : ℕ) (d : List ℕ) (st : State) 
       )
 
   -- what a turn took, by its step
-  on-by : (step : UrlStep) → next_at s uri st.url ≡ step → (t : Taken) → t ≡ taken_by s uri st.url st.packed d step → t.ended ≡ false
+  abbrev given : Found → Taken
+  given f =
+      record {
+        kind = f.kind;
+        end = after d st.packed (value_at s uri f);
+        packed = pick (keeps f.kind) (after d st.packed (value_at s uri f)) st.packed;
+        next = f.next;
+      }
+
+  one : (t x : Taken) → ◌≡◌ {A = Result (Option Taken) ℕ} (Ok (Some t)) (Ok (Some x)) → t ≡ x
+  one t x e = cc
+
+  on-by : (step : UrlStep) → next_at s uri st.url ≡ step → (t : Taken) → Ok (Some t) ≡ taken_by s uri st.packed d step
       → (l : List ℕ) → l ≡ left_by s uri st.packed d step → (a : Applied) → a ≡ applied t.kind (part_of st.packed t.end l) st.packed st.config → is_fine a.fault ≡ true
       → Going s d₀ uri m l (record { config = a.config; packed = t.packed; url = t.next }) (n + 1) × (measure s uri t.next < measure s uri st.url)
-  on-by (Ended k) e t is q l w a gave fine = never (sym (ap (λ (x : Taken). x.ended) is) ∙ q)
-  on-by (Given f) e t is q l w a gave fine =
+  on-by (Ended k) e t is l w a gave fine = no_setting k t is
+  on-by (Given f) e t is l w a gave fine =
       let x = next-found s uri st.url f g.at e in
-      rw (is, w) (going f (value_at s uri f) refl x a (rw (is, w) at gave) fine (keeps f.kind) refl, x.falls)
+      let same : t ≡ given f = one t (given f) is in
+      rw (same, w) (going f (value_at s uri f) refl x a (rw (same, w) at gave) fine (keeps f.kind) refl, x.falls)
 
-  off-by : (step : UrlStep) → next_at s uri st.url ≡ step → (t : Taken) → t ≡ taken_by s uri st.url st.packed d step → t.ended ≡ false
+  off-by : (step : UrlStep) → next_at s uri st.url ≡ step → (t : Taken) → Ok (Some t) ≡ taken_by s uri st.packed d step
       → (l : List ℕ) → l ≡ left_by s uri st.packed d step → (a : Applied) → a ≡ applied t.kind (part_of st.packed t.end l) st.packed st.config → is_fine a.fault ≡ false
       → Packed (length s) d₀ g.bytes l × (outcome_of s ≡ refused (number_of a.fault) (key_of a.fault t.kind) n)
-  off-by (Ended k) e t is q l w a gave fine = never (sym (ap (λ (x : Taken). x.ended) is) ∙ q)
-  off-by (Given f) e t is q l w a gave fine =
-      rw (is, w) (faulty f (value_at s uri f) refl (next-found s uri st.url f g.at e) a (rw (is, w) at gave) fine)
+  off-by (Ended k) e t is l w a gave fine = no_setting k t is
+  off-by (Given f) e t is l w a gave fine =
+      let same : t ≡ given f = one t (given f) is in
+      rw (same, w) (faulty f (value_at s uri f) refl (next-found s uri st.url f g.at e) a (rw (same, w) at gave) fine)
 
-  end_by : (step : UrlStep) → next_at s uri st.url ≡ step → (t : Taken) → t ≡ taken_by s uri st.url st.packed d step → t.ended ≡ true
-      → (l : List ℕ) → l ≡ left_by s uri st.packed d step → Packed (length s) d₀ g.bytes l × (outcome_of s ≡ ended st.config g.bytes n t.number)
-  end_by (Ended k) e t is q l w =
-      rw (is, w) (
+  -- an end, clean or broken
+  end_by : (step : UrlStep) → next_at s uri st.url ≡ step → (k : ℕ) → end_as k ≡ taken_by s uri st.packed d step
+      → (l : List ℕ) → l ≡ left_by s uri st.packed d step → Packed (length s) d₀ g.bytes l × (outcome_of s ≡ ended st.config g.bytes n k)
+  end_by (Ended j) e k is l w =
+      rw (same-end k j is, w) (
         g.packed,
-        g.comes ∙ ap (λ (r : Reading). outcome st.config g.bytes n r.settings r.end) (next-ended s uri st.url k g.at e) ∙ outcome-end st.config g.bytes n k,
+        g.comes ∙ ap (λ (r : Reading). outcome st.config g.bytes n r.settings r.end) (next-ended s uri st.url j g.at e) ∙ outcome-end st.config g.bytes n j,
       )
-  end_by (Given f) e t is q l w = never (sym q ∙ ap (λ (x : Taken). x.ended) is)
+  end_by (Given f) e k is l w = no_end k _ is
 
   -- what a turn took, and what it wrote
-  module _ (t : Taken) (is : t ≡ taken_of s uri st.url st.packed d) (l : List ℕ) (w : l ≡ taken_leaves s uri st.url st.packed d) where
-    module _ (q : t.ended ≡ false) (a : Applied) (gave : a ≡ applied t.kind (part_of st.packed t.end l) st.packed st.config) where
+  module _ (r : Result (Option Taken) ℕ) (is : r ≡ taken_of s uri st.url st.packed d) (l : List ℕ) (w : l ≡ taken_leaves s uri st.url st.packed d) where
+    module _ (t : Taken) (q : r ≡ Ok (Some t)) (a : Applied) (gave : a ≡ applied t.kind (part_of st.packed t.end l) st.packed st.config) where
       pub go_on : is_fine a.fault ≡ true → Going s d₀ uri m l (record { config = a.config; packed = t.packed; url = t.next }) (n + 1) × (measure s uri t.next < measure s uri st.url)
       unfolding taken_of taken_leaves
-      go_on fine = on-by (next_at s uri st.url) refl t is q l w a gave fine
+      go_on fine = on-by (next_at s uri st.url) refl t (sym q ∙ is) l w a gave fine
 
       pub go-off : is_fine a.fault ≡ false → Packed (length s) d₀ g.bytes l × (outcome_of s ≡ refused (number_of a.fault) (key_of a.fault t.kind) n)
       unfolding taken_of taken_leaves
-      go-off fine = off-by (next_at s uri st.url) refl t is q l w a gave fine
+      go-off fine = off-by (next_at s uri st.url) refl t (sym q ∙ is) l w a gave fine
 
-    pub at-end : t.ended ≡ true → Packed (length s) d₀ g.bytes l × (outcome_of s ≡ ended st.config g.bytes n t.number)
+    pub at-end : (k : ℕ) → r ≡ end_as k → Packed (length s) d₀ g.bytes l × (outcome_of s ≡ ended st.config g.bytes n k)
     unfolding taken_of taken_leaves
-    at-end q = end_by (next_at s uri st.url) refl t is q l w
+    at-end k q = end_by (next_at s uri st.url) refl k (sym q ∙ is) l w

@@ -8,6 +8,7 @@ use native.Mathlib.Omega.{arith}
 use mir.Syntax.{w64}
 use mir.Val.{Fits}
 use lib.ListN.{length, replicate}
+use Rattle.std.specs.Prelude.{Option, Some, None, Result, Ok, Err, is_err, ⊤}
 use Rattle.byte.specs.Byte.{part_of}
 use Rattle.byte.specs.Put.{written}
 use Rattle.url_parser.specs.declared.Url.{Url}
@@ -15,16 +16,18 @@ use Rattle.lists.specs.declared.Fault.{Fault}
 use Rattle.lists.specs.Fault.{is_fine, number_of, key_of}
 use Rattle.config.specs.declared.Config.{Config}
 use Rattle.apply.specs.Apply.{applied}
-use Rattle.list_keys.specs.Sets.{Sets}
+use Rattle.param.specs.Sets.{Sets}
 use Rattle.taking.specs.declared.Taken.{Taken}
-use Rattle.taking.specs.Taking.{taken_of, taken_leaves}
+use Rattle.url_parser.specs.declared.UrlStep.{UrlStep}
+use Rattle.url_parser.specs.declared.UrlStep.TheVariants.{Given, Ended}
+use Rattle.taking.specs.Taking.{next_at, taken_by, taken_of, taken_leaves}
 use Rattle.taking.proofs.Next.{measure, slack}
 use Rattle.outcome.specs.declared.Answer.{Answer}
 use Rattle.outcome.specs.Outcome.{outcome_of, filled}
 use Rattle.ending.specs.Ending.{ending}
 use Rattle.outcome.specs.Outcome.{ending_of}
 use Rattle.outcome.specs.Steps.{State}
-use Rattle.outcome.proofs.Going.{Going, go_on, go-off, at-end}
+use Rattle.outcome.proofs.Going.{Going, end_as, broken-end, go_on, go-off, at-end}
 use Rattle.outcome.proofs.Answers.{refused-text, end-fine, end-broken}
 
 -- the count stays far below the largest number
@@ -35,42 +38,55 @@ abbrev pub state : Config → ℕ → Url → State
 state c at u = record { config = c; packed = at; url = u }
 
 module _ (s d₀ : List ℕ) (uri : Bool) (d : List ℕ) (c : Config) (at : ℕ) (u : Url) (n : ℕ) (g : Going s d₀ uri 8194 d (state c at u) n) (long : length s ≤ length d₀)
-    (t : Taken) (is : t ≡ taken_of s uri u at d) (l : List ℕ) (w : l ≡ taken_leaves s uri u at d) where
-  -- what is applied comes to the fault f and, with none, to the record r
-  module _ (q : t.ended ≡ false) (f : Fault) (r : Config) (x : Sets f (applied t.kind (part_of at t.end l) at c) r) where
+    (took : Result (Option Taken) ℕ) (is : took ≡ taken_of s uri u at d) (l : List ℕ) (w : l ≡ taken_leaves s uri u at d) where
+  -- what is applied comes to the verdict f and, with none refused, to the record r
+  module _ (t : Taken) (q : took ≡ Ok (Some t)) (f : Result ⊤ Fault) (r : Config) (x : Sets f (applied t.kind (part_of at t.end l) at c) r) where
     pub goes : is_fine f ≡ true → Going s d₀ uri 8194 l (state r t.packed t.next) (n + 1) × (measure s uri t.next < measure s uri u)
     goes e =
         let fine : is_fine (applied t.kind (part_of at t.end l) at c).fault ≡ true = ap is_fine (sym x.0) ∙ e in
-        rw (x.1 fine) (go_on s d₀ uri 8194 d (state c at u) n g long t is l w q (applied t.kind (part_of at t.end l) at c) refl fine)
+        rw (x.1 fine) (go_on s d₀ uri 8194 d (state c at u) n g long took is l w t q (applied t.kind (part_of at t.end l) at c) refl fine)
 
     pub refuses : is_fine f ≡ false
         → (ending (number_of f) (key_of f t.kind) n ≡ ending_of (outcome_of s).answer) × (written l 0 (replicate (length s) 0) ≡ filled s (outcome_of s).packed d₀)
     refuses e =
         let a = applied t.kind (part_of at t.end l) at c in
-        let o = go-off s d₀ uri 8194 d (state c at u) n g long t is l w q a refl (ap is_fine (sym x.0) ∙ e) in
+        let o = go-off s d₀ uri 8194 d (state c at u) n g long took is l w t q a refl (ap is_fine (sym x.0) ∙ e) in
         let p = refused-text s d₀ l g.bytes o.0 long (number_of a.fault) (key_of a.fault t.kind) n o.1 in
-        (ap (λ (y : Fault). ending (number_of y) (key_of y t.kind) n) x.0 ∙ ap ending_of p.0, p.1)
+        (ap (λ (y : Result ⊤ Fault). ending (number_of y) (key_of y t.kind) n) x.0 ∙ ap ending_of p.0, p.1)
 
-  -- the end
-  module _ (q : t.ended ≡ true) where
-    low : length g.bytes ≤ length s
-    unfolding slack
-    low = omega (arith, g.low, g.at)
+  low : length g.bytes ≤ length s
+  unfolding slack
+  low = omega (arith, g.low, g.at)
 
-    pub end-accepts : t.number ≡ 0
-        → (ending 0 0 n ≡ ending_of (outcome_of s).answer) × (written l at (replicate (length s - at) 0) ≡ filled s (outcome_of s).packed d₀) × (c ≡ (outcome_of s).answer.config)
-    end-accepts z =
-        let o = at-end s d₀ uri 8194 d (state c at u) n g long t is l w q in
-        let p = end-fine s d₀ l g.bytes o.0 long c n at t.number g.long low z o.1 in
-        (ap ending_of p.0, p.1, ap (λ (y : Answer). y.config) p.0)
+  pub end-accepts : took ≡ Ok None
+      → (ending 0 0 n ≡ ending_of (outcome_of s).answer) × (written l at (replicate (length s - at) 0) ≡ filled s (outcome_of s).packed d₀) × (c ≡ (outcome_of s).answer.config)
+  end-accepts q =
+      let o = at-end s d₀ uri 8194 d (state c at u) n g long took is l w 0 q in
+      let p = end-fine s d₀ l g.bytes o.0 long c n at 0 g.long low refl o.1 in
+      (ap ending_of p.0, p.1, ap (λ (y : Answer). y.config) p.0)
 
-    pub end-refuses : (t.number ≡ 0 → ⊥)
-        → (ending t.number 0 n ≡ ending_of (outcome_of s).answer) × (written l 0 (replicate (length s) 0) ≡ filled s (outcome_of s).packed d₀)
-    end-refuses z =
-        let o = at-end s d₀ uri 8194 d (state c at u) n g long t is l w q in
-        let p = end-broken s d₀ l g.bytes o.0 long c n t.number z o.1 in
-        (ap ending_of p.0, p.1)
+  pub end-refuses : (k : ℕ) → took ≡ Err k
+      → (ending k 0 n ≡ ending_of (outcome_of s).answer) × (written l 0 (replicate (length s) 0) ≡ filled s (outcome_of s).packed d₀) × (k ≡ 0 → ⊥)
+  unfolding taken_of
+  end-refuses k q =
+      let b = broken (next_at s uri u) k (sym q ∙ is) in
+      let o = at-end s d₀ uri 8194 d (state c at u) n g long took is l w k (q ∙ b.1) in
+      let p = end-broken s d₀ l g.bytes o.0 long c n k b.0 o.1 in
+      (ap ending_of p.0, p.1, b.0)
+    where
+      broken : (step : UrlStep) (k : ℕ) → Err k ≡ taken_by s uri at d step → (k ≡ 0 → ⊥) × (Err k ≡ end_as k)
+      broken (Ended j) k e = broken-end j k e
+      broken (Given f) k e = cc
 
 -- no record is promised of a refusal
 pub no_record : {A : Type 0} → (number : ℕ) → (number ≡ 0 → ⊥) → (r : ℕ) → r ≡ number → r ≡ 0 → A
 no_record number h r e z = absurd (h (sym e ∙ z))
+
+-- what is_err says of a verdict
+pub bad-is : (f : Result ⊤ Fault) → is_err f ≡ true → is_fine f ≡ false
+bad-is (Ok x) e = cc
+bad-is (Err x) e = refl
+
+pub fine-is : (f : Result ⊤ Fault) → is_err f ≡ false → is_fine f ≡ true
+fine-is (Ok x) e = refl
+fine-is (Err x) e = cc

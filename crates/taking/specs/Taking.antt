@@ -1,6 +1,6 @@
 -- One turn of the reader: the next setting of a text that is read as a URI or as key-value pairs, written into the buffer.
 -- Assumes nothing.
-use Rattle.std.specs.Prelude.{ℕ, Bool, true, false, ◌||◌, List, eqb}
+use Rattle.std.specs.Prelude.{ℕ, Bool, true, false, ◌||◌, List, eqb, Option, Some, None, Result, Ok, Err}
 use Rattle.byte.specs.Byte.{pick, between, part_of}
 use Rattle.byte.specs.Put.{written, after}
 use Rattle.keyvalue.specs.declared.Step.{Step}
@@ -33,25 +33,23 @@ abbrev pub value_at : List ℕ → Bool → Found → List ℕ
 value_at s true f = value_in s f
 value_at s false f = unescaped (part_of f.from f.to s)
 
--- what is taken from the text at a place that is read up to: the end, or a setting whose value is written behind what is packed, up to `at`
-abbrev pub taken_by : List ℕ → Bool → Url → ℕ → List ℕ → UrlStep → Taken
-taken_by s uri u at d (UrlStep.Ended n) = record { ended = true; number = n; kind = 0; end = at; packed = at; next = u }
-taken_by s uri u at d (UrlStep.Given f) =
-    record {
-      ended = false;
-      number = 0;
+-- what is taken from the text at a place that is read up to: the end, clean with the number 0, or a setting whose value is written behind what is packed, up to `at`
+abbrev pub taken_by : List ℕ → Bool → ℕ → List ℕ → UrlStep → Result (Option Taken) ℕ
+taken_by s uri at d (UrlStep.Ended n) = pick (eqb n 0) (Ok None) (Err n)
+taken_by s uri at d (UrlStep.Given f) =
+    Ok (Some (record {
       kind = f.kind;
       end = after d at (value_at s uri f);
       packed = pick (keeps f.kind) (after d at (value_at s uri f)) at;
       next = f.next;
-    }
+    }))
 
 abbrev pub left_by : List ℕ → Bool → ℕ → List ℕ → UrlStep → List ℕ
 left_by s uri at d (UrlStep.Ended n) = d
 left_by s uri at d (UrlStep.Given f) = written d at (value_at s uri f)
 
-unfoldable pub taken_of : List ℕ → Bool → Url → ℕ → List ℕ → Taken
-taken_of s uri u at d = taken_by s uri u at d (next_at s uri u)
+unfoldable pub taken_of : List ℕ → Bool → Url → ℕ → List ℕ → Result (Option Taken) ℕ
+taken_of s uri u at d = taken_by s uri at d (next_at s uri u)
 
 unfoldable pub taken_leaves : List ℕ → Bool → Url → ℕ → List ℕ → List ℕ
 taken_leaves s uri u at d = left_by s uri at d (next_at s uri u)

@@ -9,12 +9,10 @@ ghost use Rattle.taking.specs.Taking.{keeps, as_url_step, next_at, value_at, tak
 
 use url_parser::{Found, Stage, Url, UrlStep};
 
-// What is taken from the text: its end, with the end's number; or a setting's kind, the place behind its value in the buffer, the place behind what
-// is packed once it is applied, and how far the text is read.
+// A setting taken from the text: its kind, the place behind its value in the buffer, the place behind what is packed once it is applied, and how far
+// the text is read.
 #[derive(Clone, Copy)]
 pub struct Taken {
-    pub ended: bool,
-    pub number: usize,
     pub kind: usize,
     pub end: usize,
     pub packed: usize,
@@ -25,16 +23,7 @@ pub struct Taken {
 fn keeps_value(kind: usize) -> bool
     ensures { result ≡ keeps kind }
 {
-    match kind {
-        1 => true,
-        2 => true,
-        3 => true,
-        4 => true,
-        5 => true,
-        8 => true,
-        20 => true,
-        _ => false,
-    }
+    matches!(kind, 1..=5 | 8 | 20)
 }
 
 // A parameter of a key-value text in the words of a URI's step.
@@ -63,6 +52,7 @@ fn next_parameter(text: &[u8], at: usize) -> UrlStep
     }
 }
 
+// The flag stays: it is an argument of the public take_setting and of the definitions next_at and value_at, on which theorems of crate demands stand.
 fn next_setting(text: &[u8], uri: bool, u: Url) -> UrlStep
     ensures { result ≡ next_at text.now uri u }
 {
@@ -90,33 +80,28 @@ fn packed_after(kind: usize, at: usize, end: usize) -> usize
     if keeps_value(kind) { end } else { at }
 }
 
-// One setting read, and its value written behind what is packed; or the end.
-pub fn take_setting(text: &[u8], decode: &mut [u8], uri: bool, u: Url, at: usize) -> Taken
+// One setting read, and its value written behind what is packed; none at a clean end, or the number of a broken one.
+pub fn take_setting(
+    text: &[u8],
+    decode: &mut [u8],
+    uri: bool,
+    u: Url,
+    at: usize,
+) -> Result<Option<Taken>, usize>
     ensures value { result ≡ taken_of text.now uri u at decode.old }
     ensures decode_after { decode.new ≡ taken_leaves text.now uri u at decode.old }
 {
-    let next = next_setting(text, uri, u);
-    match next {
-        UrlStep::Ended(n) => Taken {
-            ended: true,
-            number: n as usize,
-            kind: 0,
-            end: at,
-            packed: at,
-            next: u,
-        },
+    match next_setting(text, uri, u) {
+        UrlStep::Ended(0) => Ok(None),
+        UrlStep::Ended(n) => Err(n as usize),
         UrlStep::Given(f) => {
-            let kind = f.kind;
-            let then = f.next;
             let end = put_value(text, uri, f, decode, at);
-            Taken {
-                ended: false,
-                number: 0,
-                kind: kind,
-                end: end,
-                packed: packed_after(kind, at, end),
-                next: then,
-            }
+            Ok(Some(Taken {
+                kind: f.kind,
+                end,
+                packed: packed_after(f.kind, at, end),
+                next: f.next,
+            }))
         }
     }
 }
