@@ -6,3 +6,4 @@ pub mod Table
 pub mod Digit
 pub mod Writing
 pub mod Fill
+pub mod Scan

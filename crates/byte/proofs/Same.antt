@@ -9,6 +9,7 @@ use lib.Dec.{eqb, leb-zero}
 use lib.ListN.{length, take, drop, get_or, drop_of_length-le}
 use lib.Seq.{drop-cons}
 use borrow.Author.Tests.{eq-eqb, ne_eqb, eqb-true, le-leb, lt-leb, leb-true}
+use lib.Pointwise.{pointwise}
 use Rattle.byte.specs.Same.{same, stands_at}
 use Rattle.byte.proofs.Laws.{and_left, and-false}
 
@@ -69,3 +70,11 @@ stands-room w at s e = leb-true (at + length w) (length s) (and_left _ _ e)
 pub stands-nothing : (s : List ℕ) → stands_at [] 0 s ≡ true
 unfolding stands_at same
 stands-nothing s = rw (leb-zero _)
+
+-- the library's comparison of two slices
+pub same-pointwise : (s t : List ℕ) → pointwise eqb s t ≡ same s t
+unfolding same
+same-pointwise [] [] = refl
+same-pointwise [] (b ∷ t) = refl
+same-pointwise (a ∷ s) [] = refl
+same-pointwise (a ∷ s) (b ∷ t) = rw (same-pointwise s t)

@@ -10,6 +10,7 @@ use native.Mathlib.Omega.{arith}
 use lib.ListN.{length, take, drop, set, length-append, length-drop, take-append-drop}
 use lib.Seq.{take_at, drop_at, length-take-le, drop-append-add, drop-drop, set_split, append_snoc}
 use borrow.Author.Tests.{le-leb, lt-leb, leb-true}
+use borrow.Rule.Slice.PartMut.{put_mid}
 use Rattle.byte.specs.Byte.{pick}
 use Rattle.byte.specs.Put.{put, fits, written, after}
 
@@ -128,3 +129,9 @@ module _ (d : List ℕ) (at : ℕ) (x : List ℕ) where
     after-append =
         rw (written-room d at x first, after-room d at x first, after-room (put d at x) (at + length x) y second, after-room d at (x ++ y) room)
         (omega (arith, length-append x y))
+
+-- a part of lent memory written whole, in the library's words
+pub put_mid-written : (d : List ℕ) (at : ℕ) (x : List ℕ) → at + length x ≤ length d → (k : ℕ) (y : List ℕ) → k ≡ length x → y ≡ x → put_mid at k d y ≡ written d at x
+unfolding put
+put_mid-written d at x room k y e f =
+    rw (f, e, drop-drop (length x) at d, ← append_assoc) (sym (written-room d at x room))

@@ -55,17 +55,7 @@ pub fn digit_of(b: u8) -> u8
 pub fn equals(a: &[u8], b: &[u8]) -> bool
     ensures { result ≡ same a.now b.now }
 {
-    if a.len() != b.len() {
-        return false;
-    }
-    let mut i = 0;
-    while i < a.len() {
-        if a[i] != b[i] {
-            return false;
-        }
-        i += 1;
-    }
-    true
+    a == b
 }
 
 // Whether `w` stands in `s` from the place `at` on.
@@ -110,12 +100,9 @@ pub fn copy(src: &[u8], dst: &mut [u8], at: usize) -> usize
     if !has_room(dst.len(), at, src.len()) {
         return at;
     }
-    let mut k = 0;
-    while k < src.len() {
-        dst[at + k] = src[k];
-        k += 1;
-    }
-    at + k
+    let end = at + src.len();
+    dst[at..end].copy_from_slice(src);
+    end
 }
 
 // Sets `n` bytes of `dst` to zero from the place `at` on, and answers as `put` does.
@@ -126,10 +113,7 @@ pub fn clear(dst: &mut [u8], at: usize, n: usize) -> usize
     if !has_room(dst.len(), at, n) {
         return at;
     }
-    let mut k = 0;
-    while k < n {
-        dst[at + k] = 0;
-        k += 1;
-    }
-    at + k
+    let end = at + n;
+    dst[at..end].fill(0);
+    end
 }

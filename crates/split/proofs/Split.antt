@@ -2,7 +2,7 @@
 -- Assumes nothing.
 use Prim.Native.Nat.{ℕ, suc, ◌+◌, ◌-◌, ◌≤◌, ◌<◌}
 use mathlib.Core.Path.{◌≡◌, refl, ap, ◌∙◌}
-use mathlib.Core.Bool.{Bool, true, false}
+use mathlib.Core.Bool.{Bool, true, false, cond}
 use mathlib.Core.List.{List, [], ◌∷◌, ◌++◌}
 use native.Mathlib.Omega.{arith}
 use native.Mathlib.Numerals.{add-one}
@@ -10,6 +10,8 @@ use lib.Dec.{eqb}
 use lib.ListN.{length, drop, take, get_or, drop_of_length-le, length-drop}
 use lib.Seq.{drop-cons, drop-drop}
 use borrow.Author.Tests.{eq-eqb, ne_eqb, eqb-true}
+use Rattle.std.specs.List.{position_or_len}
+use Rattle.std.proofs.lemmas.List.Recursion.{is_position_or_len}
 use Rattle.byte.specs.Byte.{pick}
 use Rattle.split.specs.Split.{first_at, onto, split, join}
 
@@ -144,3 +146,12 @@ module _ (b : ℕ) where
   unfolding join
   split-join (free_one f) = split-free _ f
   split-join (free_more {p} f r) = split-behind p f _ ∙ ap (λ (l : List (List ℕ)). p ∷ l) (split-join r)
+
+-- the first b is the library's first place that passes
+pub first-position : (b : ℕ) (s : List ℕ) → first_at b s ≡ position_or_len (λ a. eqb a b) s
+unfolding first_at
+first-position b s = is_position_or_len (first_at b) (λ a. eqb a b) refl (λ x xs. by (eqb x b) (first_at b xs)) s
+  where
+    by : (t : Bool) (n : ℕ) → pick t 0 (suc n) ≡ cond t 0 (1 + n)
+    by true n = refl
+    by false n = omega arith

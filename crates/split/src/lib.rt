@@ -8,12 +8,11 @@ ghost use Rattle.split.specs.Split.{first_at};
 pub fn find(s: &[u8], from: usize, b: u8) -> usize
     ensures { result ≡ from + first_at b (drop from s.now) }
 {
-    let mut i = from;
-    while i < s.len() {
-        if s[i] == b {
-            return i;
-        }
-        i += 1;
+    if s.len() <= from {
+        return from;
     }
-    i
+    match s[from..].iter().position(|&a| a == b) {
+        Some(k) => from + k,
+        None => s.len(),
+    }
 }
