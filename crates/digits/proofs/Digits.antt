@@ -11,6 +11,7 @@ use lib.Dec.{ltb}
 use lib.ListN.{length, get_or, drop, replicate, drop_of_length-le}
 use lib.Seq.{drop-cons}
 use borrow.Author.Tests.{lt-ltb, le-ltb, ltb-true}
+use Rattle.std.specs.List.{list_all}
 use Rattle.byte.specs.Byte.{pick, between}
 use Rattle.byte.specs.Digit.{digit_of}
 use Rattle.byte.proofs.Laws.{and_left, and_right, between_in}
@@ -42,19 +43,15 @@ module _ (base : ℕ) where
   unfolding all_digits
   all-digits-cons a s = refl
 
-  -- at a place: a digit leaves the rest to be judged, anything else decides, and so does the end
-  module _ (s : List ℕ) (i : ℕ) where
-    pub digit-here : i < length s → digit_of (get_or s i 0) < base → all_digits base (drop i s) ≡ all_digits base (drop (i + 1) s)
-    unfolding all_digits
-    digit-here h d = rw (add-one, drop-cons s i 0 h, lt-ltb _ _ d)
+  -- past the end there is none, and the library's test of each is the same
+  pub digits-end : (s : List ℕ) (i : ℕ) → length s ≤ i → all_digits base (drop i s) ≡ true
+  unfolding all_digits
+  digits-end s i h = rw (drop_of_length-le s h)
 
-    pub other-here : i < length s → base ≤ digit_of (get_or s i 0) → all_digits base (drop i s) ≡ false
-    unfolding all_digits
-    other-here h d = rw (drop-cons s i 0 h, le-ltb _ _ d)
-
-    pub digits-end : length s ≤ i → all_digits base (drop i s) ≡ true
-    unfolding all_digits
-    digits-end h = rw (drop_of_length-le s h)
+  pub digits-all : (s : List ℕ) → list_all (λ a. ltb (digit_of a) base) s ≡ all_digits base s
+  unfolding all_digits
+  digits-all [] = refl
+  digits-all (a ∷ s) = rw (digits-all s)
 
   -- digits that follow never make a number less
   pub grows : 0 < base → (s : List ℕ) (v : ℕ) → v ≤ value_from base v s

@@ -8,14 +8,10 @@ ghost use Rattle.digits.specs.Digits.{all_digits};
 pub fn all_digits(s: &[u8], from: usize, base: u8) -> bool
     ensures { result ≡ all_digits base (drop from s.now) }
 {
-    let mut i = from;
-    while i < s.len() {
-        if base <= byte::digit_of(s[i]) {
-            return false;
-        }
-        i += 1;
+    if s.len() <= from {
+        return true;
     }
-    true
+    s[from..].iter().all(|&b| byte::digit_of(b) < base)
 }
 
 // Whether `v` with the digit `d` behind it stays within `max`, told without a product that could wrap. The first test divides the same two numbers

@@ -1,7 +1,7 @@
 // A byte as it stands in a report, or escaped.
 #![tactic(auto)]
 
-ghost use Rattle.std.specs.Prelude.{◌≡◌, ltb, length};
+ghost use Rattle.std.specs.Prelude.{◌≡◌, length};
 ghost use Rattle.byte.specs.Byte.{pick};
 ghost use Rattle.byte.specs.Put.{written, after};
 ghost use Rattle.escape.specs.Escape.{plain, all_plain, escape};
@@ -44,21 +44,13 @@ fn mark(b: u8) -> u8
     if is_plain(b) { 0 } else { 1 }
 }
 
-fn greater(a: u8, b: u8) -> u8
-    ensures { result ≡ pick (ltb a b) b a }
-{
-    if a < b { b } else { a }
-}
-
 // Whether every byte stands as it is: by the greatest mark, since a loop that leaves early is not made into wide steps.
 pub fn all_plain(x: &[u8]) -> bool
     ensures { result ≡ all_plain x.now }
 {
     let mut most = 0u8;
-    let mut i = 0;
-    while i < x.len() {
-        most = greater(most, mark(x[i]));
-        i += 1;
+    for &b in x {
+        most = most.max(mark(b));
     }
     most == 0
 }

@@ -1,7 +1,7 @@
 -- Laws of runs of plain bytes: they stand for themselves, each a character of UTF-8, so that a scan may pass over them.
 -- Assumes nothing.
 use mathlib.Core.Path.{◌≡◌, refl, ap, sym, ◌∙◌}
-use mathlib.Core.Bool.{Bool, true, false, ◌||◌}
+use mathlib.Core.Bool.{Bool, true, false, ◌||◌, cond}
 use mathlib.Core.List.{List, [], ◌∷◌}
 use Prim.Native.Nat.{ℕ, zero, suc, ◌+◌, ◌-◌, ◌<◌, ◌≤◌}
 use native.Mathlib.Omega.{arith}
@@ -11,6 +11,8 @@ use lib.Dec.{eqb, leb}
 use lib.ListN.{length, take, drop, get_or, drop_of_length-le}
 use lib.Seq.{drop-cons, drop-drop}
 use borrow.Author.Tests.{eqb-true, eqb-false, leb-false, lt-leb, ne_eqb}
+use Rattle.std.specs.List.{position_or_len}
+use Rattle.std.proofs.lemmas.List.Recursion.{is_position_or_len}
 use Rattle.byte.specs.Byte.{pick, part_of}
 use Rattle.byte.proofs.Parts.{part-is, part-short}
 use Rattle.split.specs.Split.{first_at}
@@ -175,3 +177,21 @@ module _ (s : List ℕ) (plain : ℕ) (p : plain ≡ 0 + plain_until 37 (drop 0 
 
   pub whole_plain : length s ≤ plain → record { len = plain; utf8 = true } ≡ checked s
   whole_plain h = on-end plain s plain h ∙ whole-more
+
+-- a run ends at the library's first byte that ends it, and within the text
+pub run-position : (b : ℕ) (s : List ℕ) → plain_until b s ≡ position_or_len (ends_plain b) s
+unfolding plain_until
+run-position b s = is_position_or_len (plain_until b) (ends_plain b) refl (λ x xs. by (ends_plain b x) (plain_until b xs)) s
+  where
+    by : (t : Bool) (n : ℕ) → pick t 0 (suc n) ≡ cond t 0 (1 + n)
+    by true n = refl
+    by false n = omega arith
+
+pub run-most : (b : ℕ) (s : List ℕ) → plain_until b s ≤ length s
+unfolding plain_until
+run-most b [] = omega arith
+run-most b (a ∷ s) = by (ends_plain b a) (run-most b s)
+  where
+    by : (t : Bool) → plain_until b s ≤ length s → pick t 0 (suc (plain_until b s)) ≤ suc (length s)
+    by true h = omega arith
+    by false h = omega arith

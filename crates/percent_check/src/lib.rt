@@ -29,14 +29,13 @@ fn ends_plain(stop: u8, b: u8) -> bool
 fn plain_until(s: &[u8], from: usize, stop: u8) -> usize
     ensures { result ≡ from + plain_until stop (drop from s.now) }
 {
-    let mut i = from;
-    while i < s.len() {
-        if ends_plain(stop, s[i]) {
-            return i;
-        }
-        i += 1;
+    if s.len() <= from {
+        return from;
     }
-    i
+    match s[from..].iter().position(|&b| ends_plain(stop, b)) {
+        Some(k) => from + k,
+        None => s.len(),
+    }
 }
 
 // Both in one pass, with nothing written.

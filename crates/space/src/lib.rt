@@ -8,7 +8,6 @@ ghost use Rattle.space.specs.Space.{is_space};
 #[derive(Clone, Copy)]
 struct Range(u32, u32);
 
-// In ascending order, so that a search ends where a range starts above what is looked for.
 const SPACES: [Range; 11] = [
     Range(0x9, 0xd),
     Range(0x20, 0x20),
@@ -27,17 +26,7 @@ const SPACES: [Range; 11] = [
 pub fn is_space(code: u32) -> bool
     ensures { result ≡ is_space code }
 {
-    let spaces = SPACES;
-    let mut i = 0;
-    while i < spaces.len() {
-        let range = spaces[i];
-        if code < range.0 {
-            return false;
-        }
-        if code <= range.1 {
-            return true;
-        }
-        i += 1;
-    }
-    false
+    SPACES
+        .iter()
+        .any(|range| range.0 <= code && code <= range.1)
 }

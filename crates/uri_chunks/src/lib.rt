@@ -29,14 +29,13 @@ fn ends_chunk(b: u8) -> bool
 pub fn chunk_end(s: &[u8], at: usize) -> usize
     ensures { result ≡ at + first_of ends_chunk (drop at s.now) }
 {
-    let mut i = at;
-    while i < s.len() {
-        if ends_chunk(s[i]) {
-            return i;
-        }
-        i += 1;
+    if s.len() <= at {
+        return at;
     }
-    i
+    match s[at..].iter().position(|&b| ends_chunk(b)) {
+        Some(k) => at + k,
+        None => s.len(),
+    }
 }
 
 // Whether after `]` the chunk ends, or `:` follows.
@@ -115,14 +114,13 @@ fn ends_plain_host(b: u8) -> bool
 pub fn plain_host(s: &[u8], at: usize) -> usize
     ensures { result ≡ at + first_of ends_plain_host (drop at s.now) }
 {
-    let mut i = at;
-    while i < s.len() {
-        if ends_plain_host(s[i]) {
-            return i;
-        }
-        i += 1;
+    if s.len() <= at {
+        return at;
     }
-    i
+    match s[at..].iter().position(|&b| ends_plain_host(b)) {
+        Some(k) => at + k,
+        None => s.len(),
+    }
 }
 
 // Whether a host ends at a place.

@@ -2,7 +2,7 @@
 -- Assumes nothing.
 use Prim.Native.Nat.{ℕ, zero, suc, ◌+◌, ◌≤◌, ◌<◌, ◌-◌}
 use mathlib.Core.Path.{◌≡◌, refl, ap, sym, ◌∙◌}
-use mathlib.Core.Bool.{Bool, true, false}
+use mathlib.Core.Bool.{Bool, true, false, cond}
 use mathlib.Core.List.{List, [], ◌∷◌}
 use native.Mathlib.Omega.{arith}
 use native.Mathlib.Numerals.{add-one}
@@ -11,6 +11,8 @@ use lib.ListN.{length, take, drop, get_or, drop_of_length-le, length-drop}
 use lib.Dec.{eqb, ltb}
 use lib.Seq.{drop-cons, drop-drop, get_or-drop, take-nil, take-take}
 use borrow.Author.Tests.{ltb-true, ltb-false}
+use Rattle.std.specs.List.{position_or_len}
+use Rattle.std.proofs.lemmas.List.Recursion.{is_position_or_len}
 use Rattle.byte.specs.Byte.{pick, part_of}
 use Rattle.byte.proofs.Parts.{part-is}
 use Rattle.split.specs.Split.{first_at}
@@ -118,3 +120,12 @@ pub first-drop : (b k : ℕ) (t : List ℕ) → k ≤ first_at b t → first_at 
 first-drop b k t h =
     let q : k ≤ first_of (λ (a : ℕ). eqb a b) t = omega (arith, first-of b t) in
     first-of b (drop k t) ∙ of-drop (λ (a : ℕ). eqb a b) k t q ∙ ap (λ (n : ℕ). n - k) (sym (first-of b t))
+
+-- the first byte that passes is the library's
+pub of-position : (f : ℕ → Bool) (s : List ℕ) → first_of f s ≡ position_or_len f s
+unfolding first_of
+of-position f s = is_position_or_len (first_of f) f refl (λ x xs. by (f x) (first_of f xs)) s
+  where
+    by : (t : Bool) (n : ℕ) → pick t 0 (suc n) ≡ cond t 0 (1 + n)
+    by true n = refl
+    by false n = omega arith

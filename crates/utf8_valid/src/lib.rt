@@ -8,31 +8,22 @@ ghost use Rattle.utf8.specs.Utf8.{char_at, well_formed};
 fn skip_ascii(s: &[u8], at: usize) -> usize
     ensures { (at ≤ result) × (result - at ≤ length s.now - at) × (well_formed (drop at s.now) ≡ well_formed (drop result s.now)) }
 {
-    let mut i = at;
-    while i < s.len() {
-        if 0x80 <= s[i] {
-            return i;
-        }
-        i += 1;
+    if s.len() <= at {
+        return at;
     }
-    i
-}
-
-fn larger(a: u8, b: u8) -> u8
-    ensures { (a ≤ result) × (b ≤ result) }
-{
-    if a < b { b } else { a }
+    match s[at..].iter().position(|&b| 0x80 <= b) {
+        Some(k) => at + k,
+        None => s.len(),
+    }
 }
 
 // The greatest byte: where it is ASCII all are, so the text is well formed. Every turn goes on, so that a compiler can take many bytes at once.
 fn greatest_in(s: &[u8]) -> u8
     ensures { result < 0x80 → well_formed s.now ≡ true }
 {
-    let mut greatest = 0;
-    let mut i = 0;
-    while i < s.len() {
-        greatest = larger(greatest, s[i]);
-        i += 1;
+    let mut greatest = 0u8;
+    for &b in s {
+        greatest = greatest.max(b);
     }
     greatest
 }

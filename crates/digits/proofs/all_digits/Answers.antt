@@ -1,27 +1,18 @@
-use lib.ListN.{get_or}
+use mathlib.Core.Path.{sym, ap, ◌∙◌}
+use lib.Dec.{ltb}
+use Rattle.std.proofs.Common.{rules, tests, arith}
+use Rattle.std.proofs.lemmas.Iterator.{YieldsList-from_slice}
+use Rattle.std.proofs.lemmas.Iterator.Search.{all_from_yields_List}
+use Rattle.std.specs.List.{list_all}
 use Rattle.byte.specs.Digit.{digit_of}
-use mathlib.Core.Path.{sym, ◌∙◌}
-use Prim.Native.Nat.{◌≤◌, ◌<◌}
-use native.Mathlib.Omega.{arith}
-use Rattle.digits.proofs.Digits.{digit-here, other-here, digits-end}
+use Rattle.byte.proofs.Scan.{slice_from}
+use Rattle.digits.proofs.Digits.{digits-end, digits-all}
 use Rattle.digits.proofs.all_digits.Goals as goal
 
-pub returns-then-base-digit_of : goal.returns-then-base-digit_of
-returns-then-base-digit_of c =
-    let s = c in
-    let a = s.args in
-    let h : a.base ≤ digit_of (get_or a.s.now s.loop-i.i 0) = omega (arith, c.digit_of.ensures, c.if-base-digit_of.true) in
-    sym (s.loop-i.invariant ∙ other-here a.base a.s.now s.loop-i.i c.loop-i-test.true h)
-
-pub loop-i-preserved : goal.loop-i-preserved
-loop-i-preserved c =
-    let s = c in
-    let a = s.args in
-    let h : digit_of (get_or a.s.now s.loop-i.i 0) < a.base = omega (arith, c.digit_of.ensures, c.if-base-digit_of.false) in
-    s.loop-i.invariant ∙ digit-here a.base a.s.now s.loop-i.i c.loop-i-test.true h
+pub returns-then-s-from : goal.returns-then-s-from
+returns-then-s-from c = sym (digits-end c.args.base c.args.s.now c.args.from c.if-s-from.true)
 
 pub returns : goal.returns
 returns c =
-    let s = c in
-    let a = s.args in
-    sym (s.loop-i.invariant ∙ digits-end a.base a.s.now s.loop-i.i c.loop-i-test.false)
+    all_from_yields_List (λ a. ltb (digit_of a) c.args.base) _ _ _ c.all.ensures.ran (YieldsList-from_slice _ c.iter.ensures.rest) (λ x b q k. search (rules, tests))
+    ∙ ap (list_all (λ a. ltb (digit_of a) c.args.base)) (slice_from c.args.s.now c.args.from) ∙ digits-all c.args.base _
