@@ -12,18 +12,24 @@ pub fn gained_at(s: &[u8], at: usize) -> usize
     if byte::at(s, at) == b'\\' { at + 1 } else { at }
 }
 
+// Whether a byte only tells that the next one is taken as it is, where the flag tells whether a backslash stands before it.
+fn is_sign(behind: bool, b: u8) -> bool
+    ensures { result ≡ not behind && eqb b 92 }
+{
+    !behind && b == b'\\'
+}
+
 // How long a value is once decoded.
 fn unescaped_len(raw: &[u8]) -> usize
     ensures { result ≡ length (unescaped raw.now) }
 {
-    let mut i = 0;
+    let mut behind = false;
     let mut len = 0;
-    while i < raw.len() {
-        let j = gained_at(raw, i);
-        if raw.len() <= j {
-            return len;
+    for &b in raw {
+        behind = is_sign(behind, b);
+        if behind {
+            continue;
         }
-        i = j + 1;
         len += 1;
     }
     len
@@ -44,14 +50,7 @@ fn has_room(raw: &[u8], len: usize, at: usize) -> bool
 fn is_as_written(raw: &[u8]) -> bool
     ensures { result ≡ eqb (length (unescaped raw.now)) (length raw.now) }
 {
-    let mut i = 0;
-    while i < raw.len() {
-        if raw[i] == b'\\' {
-            return false;
-        }
-        i += 1;
-    }
-    true
+    !raw.contains(&b'\\')
 }
 
 // Writes a value decoded into `dst` from the place `at` on, and answers the place behind it; with no room it writes nothing and answers `at`.
@@ -65,16 +64,15 @@ pub fn unescape(src: &[u8], dst: &mut [u8], at: usize) -> usize
     if !has_room(src, dst.len(), at) {
         return at;
     }
-    let mut i = 0;
+    let mut behind = false;
     let mut k = 0;
-    while i < src.len() {
-        let j = gained_at(src, i);
-        if src.len() <= j {
-            return at + k;
+    for &b in src {
+        behind = is_sign(behind, b);
+        if behind {
+            continue;
         }
-        dst[at + k] = src[j];
+        dst[at + k] = b;
         k += 1;
-        i = j + 1;
     }
     at + k
 }

@@ -1,14 +1,14 @@
 -- What is left of the room, text by text and host by host.
 -- Assumes nothing.
-use Prim.Native.Nat.{ℕ, suc, ◌+◌, ◌*◌, ◌-◌, ◌/◌, ◌<◌, ◌≤◌}
+use Prim.Native.Nat.{ℕ, ◌+◌, ◌*◌, ◌-◌, ◌/◌, ◌<◌, ◌≤◌}
 use mathlib.Core.Path.{◌≡◌, refl, sym, ◌∙◌}
+use mathlib.Core.List.{List, [], ◌∷◌}
+use Rattle.std.specs.List.{fold}
 use mathlib.Core.Bool.{Bool, true, false, ◌&&◌}
 use native.Mathlib.Omega.{arith}
 use native.Mathlib.Nat.{sub-zero}
-use native.Mathlib.Numerals.{add-one}
 use lib.Dec.{ltb, leb}
-use lib.ListN.{length, get_or, take, drop, drop_of_length-le}
-use lib.Seq.{take-nil, drop-cons}
+use lib.ListN.{take}
 use borrow.Author.Tests.{lt-ltb, le-ltb, ltb-true, ltb-false, leb-true}
 use Rattle.byte.proofs.Laws.{and_left, and_right}
 use Rattle.lists.specs.declared.Place.{Place}
@@ -40,29 +40,11 @@ module _ (p : Place) (k : HostKind) where
   unfolding kind_len
   unix-len e = rw e
 
--- the hosts from the place i on
-module _ (from : ℕ) (h : Hosts) where
-  abbrev pub Rest : ℕ → ℕ → Type 0
-  Rest left i = from - host_threes (take h.count h.list) ≡ left - host_threes (take (h.count - i) (drop i h.list))
-
-  pub rest-first : Rest from 0
-  rest-first = rw (sub-zero h.count)
-
-  pub rest_more : (left i : ℕ) (d : Host) → Rest left i → i < h.count → i < length h.list → (m len n : ℕ) → m ≡ left - 4 → len ≡ kind_len (get_or h.list i d).kind → n ≡ m - len → Rest n (i + 1)
-  unfolding host_threes
-  rest_more left i d f l k m len n e kl g =
-      let s : h.count - i ≡ suc (h.count - (i + 1)) = omega arith in
-      let r = host_threes (take (h.count - suc i) (drop (suc i) h.list)) in
-      let a : left - (4 + kind_len (get_or h.list i d).kind + r) ≡ n - r = omega (arith, e, kl, g) in
-      f ∙ rw (s, add-one, drop-cons h.list i d k) a
-
-  pub rest-counted : (left i : ℕ) → Rest left i → h.count ≤ i → left ≡ from - host_threes (take h.count h.list)
-  unfolding host_threes
-  rest-counted left i f l = let m : h.count - i ≡ 0 = omega arith in sym (f ∙ rw (m, sub-zero left))
-
-  pub rest_ended : (left i : ℕ) → Rest left i → length h.list ≤ i → left ≡ from - host_threes (take h.count h.list)
-  unfolding host_threes
-  rest_ended left i f l = sym (f ∙ rw (drop_of_length-le h.list l, take-nil {A = Host} (h.count - i), sub-zero left))
+-- the counted hosts, taken away one after the other
+pub hosts_taken : (from : ℕ) (hs : List Host) → fold (λ (left : ℕ) (h : Host). left - 4 - kind_len h.kind) from hs ≡ from - host_threes hs
+unfolding host_threes
+hosts_taken from [] = sym (sub-zero from)
+hosts_taken from (h ∷ hs) = hosts_taken (from - 4 - kind_len h.kind) hs ∙ omega arith
 
 -- the counts
 module _ (c : Config) where

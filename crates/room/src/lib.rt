@@ -39,17 +39,10 @@ fn host_len(h: Host) -> usize
 fn without_hosts(from: usize, h: Hosts) -> usize
     ensures { result ≡ from - host_threes (take h.count h.list) }
 {
-    let mut left = from;
-    let mut i = 0;
-    while i < h.count {
-        if 16 <= i {
-            return left;
-        }
-        let host = h.list[i];
-        left = minus(minus(left, 4), host_len(host));
-        i += 1;
-    }
-    left
+    h.list
+        .iter()
+        .take(h.count)
+        .fold(from, |left, &host| minus(minus(left, 4), host_len(host)))
 }
 
 // Whether n bytes are enough for the report whatever the texts' bytes are; `false` tells nothing.

@@ -1,21 +1,18 @@
-use native.Mathlib.Omega.{arith}
-use borrow.Author.Rules.{rules}
-use Rattle.room.proofs.Left.{rest-first, rest_more, rest-counted, rest_ended}
+-- `without_hosts` meets its contract: the library's fold over the counted hosts. Assumes nothing.
+use mathlib.Core.Path.{ap, ◌∙◌}
+use Prim.Native.Nat.{ℕ, ◌-◌}
+use Rattle.std.proofs.Common.{rules, tests}
+use Rattle.std.proofs.lemmas.Iterator.{YieldsList-from_slice, YieldsList-from_take}
+use Rattle.std.proofs.lemmas.Iterator.Consumers.{fold_from_yields_List}
+use Rattle.std.specs.Slice.Iter.{iter_rest}
+use Rattle.lists.specs.declared.Host.{Host}
+use Rattle.room.specs.Room.{kind_len}
+use Rattle.room.proofs.Left.{hosts_taken}
 use Rattle.room.proofs.without_hosts.Goals as goal
-
-pub loop-i-init : goal.loop-i-init
-loop-i-init c =
-    (search rules, rest-first c.args.from c.args.h)
-
-pub returns-then-i-ge16 : goal.returns-then-i-ge16
-returns-then-i-ge16 c =
-    let l = c.loop-i in rest_ended _ _ _ l.i l.invariant.1 (omega (arith, l.invariant.0, c.if-i-ge16.true))
-
-pub loop-i-preserved : goal.loop-i-preserved
-loop-i-preserved c =
-    let l = c.loop-i in
-    (l.invariant.0, rest_more _ _ _ l.i _ l.invariant.1 c.loop-i-test.true (omega (arith, l.invariant.0, c.if-i-ge16.false)) _ _ _ c.minus.ensures c.host_len.ensures c.minus-left.ensures)
 
 pub returns : goal.returns
 returns c =
-    let l = c.loop-i in rest-counted _ _ _ l.i l.invariant.1 c.loop-i-test.false
+    fold_from_yields_List _ (λ (left : ℕ) (h : Host). left - 4 - kind_len h.kind) c.args.from _ c.fold.ensures.ran
+    (YieldsList-from_take c.args.h.count (YieldsList-from_slice _ (ap iter_rest c.take.ensures.source ∙ c.iter.ensures.rest)) c.take.ensures.count)
+    (λ a x b q k. search (rules, tests))
+    ∙ hosts_taken c.args.from _
