@@ -1,7 +1,7 @@
 -- Laws of values: what the piece at a place adds to one.
 -- Assumes nothing.
 use mathlib.Core.Path.{◌≡◌, refl, sym, ap, ◌∙◌}
-use mathlib.Core.Bool.{Bool, true, false}
+use mathlib.Core.Bool.{Bool, true, false, not, ◌&&◌, ◌||◌}
 use mathlib.Core.List.{List, [], ◌∷◌}
 use Prim.Native.Nat.{ℕ, zero, suc, ◌+◌, ◌-◌, ◌<◌, ◌≤◌, zero-le, suc-le-suc}
 use native.Mathlib.Numerals.{add-one}
@@ -9,7 +9,8 @@ use native.Mathlib.Omega.{arith}
 use lib.Dec.{eqb, ltb}
 use lib.ListN.{length, drop, take, get_or, length-drop, drop_of_length-le}
 use lib.Seq.{drop-cons, take-length}
-use borrow.Author.Tests.{ne_eqb, eqb-true, eqb-false}
+use borrow.Author.Tests.{eq-eqb, ne_eqb, eqb-true, eqb-false}
+use Rattle.std.specs.List.{list_any}
 use Rattle.byte.specs.Byte.{pick}
 use Rattle.scan.specs.Scan.{run_from, run, end_of}
 use Rattle.scan.proofs.Runs.{run-stop}
@@ -120,39 +121,6 @@ pub gained-itself : (s : List ℕ) (i : ℕ) → (get_or s i 0 ≡ 92 → ⊥) �
 unfolding gained_at
 gained-itself s i n = rw (ne_eqb (get_or s i 0) 92 n)
 
--- a whole text as a value: one that nothing ends
-abbrev never : List ℕ → Bool
-never t = false
-
-never-run : (k : ℕ) (s : List ℕ) → run_from (until never) k s ≡ length s
-unfolding run_from piece_len
-never-run k [] = refl
-never-run (suc k) (a ∷ s) = ap suc (never-run k s)
-never-run zero (a ∷ []) = refl
-never-run zero (a ∷ b ∷ s) = by (eqb a 92) (λ k. never-run k (b ∷ s))
-  where
-    by : (t : Bool) → ((k : ℕ) → run_from (until never) k (b ∷ s) ≡ suc (length s)) → pick (ltb 0 (pick t 2 1)) (suc (run_from (until never) (pick t 2 1 - 1) (b ∷ s))) 0 ≡ suc (suc (length s))
-    by true later = ap suc (later 1)
-    by false later = ap suc (later 0)
-
-whole : (t : List ℕ) → value_by never t ≡ unescaped t
-whole t = rw (never-run 0 t, take-length t)
-
-module _ (s : List ℕ) (i : ℕ) where
-  pub unescaped-past : length s ≤ i → unescaped (drop i s) ≡ []
-  unfolding unescaped_from
-  unescaped-past h = rw (drop_of_length-le s h)
-
-  module _ (h : i < length s) (j : ℕ) (is : j ≡ gained_at s i) where
-    pub unescaped-turn : j < length s → unescaped (drop i s) ≡ get_or s j 0 ∷ unescaped (drop (j + 1) s)
-    unescaped-turn l = sym (whole (drop i s)) ∙ (turn never s i h refl j is l).value ∙ ap (λ (v : List ℕ). get_or s j 0 ∷ v) (whole (drop (j + 1) s))
-
-    pub unescaped-last : length s ≤ j → unescaped (drop i s) ≡ []
-    unescaped-last l = sym (whole (drop i s)) ∙ (last never s i h refl j is l).value
-
-    pub gained-from : i ≤ j
-    gained-from = from-by j (piece-at s i j is)
-
 -- a decoded value is never longer than it is written
 shorter-from : (behind : Bool) (s : List ℕ) → length (unescaped_from behind s) ≤ length s
 unfolding unescaped_from
@@ -179,10 +147,44 @@ as_written (a ∷ s) e = by (eqb a 92) (shorter-from true s) (as_written s) e
     by true p later l = absurd (omega arith)
     by false p later l = ap (λ (v : List ℕ). a ∷ v) (later (omega arith))
 
--- from a backslash on it is shorter
-pub escaped-less : (s : List ℕ) (i : ℕ) → i < length s → get_or s i 0 ≡ 92 → length (unescaped (drop i s)) < length s - i
+-- a byte at a time, where the flag tells whether a backslash stands before it: a backslash that none stands before adds nothing, any other byte itself
+abbrev pub sign : Bool → ℕ → Bool
+sign behind a = not behind && eqb a 92
+
+sign-turn : (behind : Bool) (a : ℕ) (s : List ℕ) → unescaped_from behind (a ∷ s) ≡ pick (sign behind a) (unescaped_from true s) (a ∷ unescaped_from false s)
 unfolding unescaped_from
-escaped-less s i h e =
-    let d : drop i s ≡ 92 ∷ drop (suc i) s = drop-cons s i 0 h ∙ ap (λ (a : ℕ). a ∷ drop (suc i) s) e in
-    let l : length (unescaped_from true (drop (suc i) s)) < length s - i = omega (arith, shorter-from true (drop (suc i) s), length-drop (suc i) s) in
-    rw d l
+sign-turn true a s = refl
+sign-turn false a s = refl
+
+module _ (s : List ℕ) (i : ℕ) (behind t : Bool) (h : i < length s) (is : t ≡ sign behind (get_or s i 0)) where
+  turned : unescaped_from behind (drop i s) ≡ pick t (unescaped_from true (drop (i + 1) s)) (get_or s i 0 ∷ unescaped_from false (drop (i + 1) s))
+  turned = rw (is, add-one i, drop-cons s i 0 h) (sign-turn behind (get_or s i 0) (drop (suc i) s))
+
+  pub sign-on : t ≡ true → unescaped_from behind (drop i s) ≡ unescaped_from true (drop (i + 1) s)
+  sign-on e = turned ∙ rw e
+
+  pub sign-off : t ≡ false → unescaped_from behind (drop i s) ≡ get_or s i 0 ∷ unescaped_from false (drop (i + 1) s)
+  sign-off e = turned ∙ rw e
+
+pub sign-past : (s : List ℕ) (i : ℕ) (behind : Bool) → length s ≤ i → unescaped_from behind (drop i s) ≡ []
+unfolding unescaped_from
+sign-past s i behind h = rw (drop_of_length-le s h) (by behind)
+  where
+    by : (t : Bool) → unescaped_from t [] ≡ []
+    by true = refl
+    by false = refl
+
+-- a value is as it is written where no backslash stands in it
+pub none-written : (s : List ℕ) → not (list_any (λ b. eqb b 92) s) ≡ eqb (length (unescaped s)) (length s)
+unfolding unescaped_from
+none-written [] = refl
+none-written (a ∷ s) = by (eqb a 92) (shorter-from true s) (none-written s)
+  where
+    on : (q : Bool) → eqb (length (unescaped s)) (length s) ≡ q → q ≡ eqb (suc (length (unescaped s))) (suc (length s))
+    on true e = sym (eq-eqb _ _ (ap suc (eqb-true (length (unescaped s)) (length s) e)))
+    on false e = let n : length (unescaped s) ≡ length s → ⊥ = eqb-false (length (unescaped s)) (length s) e in sym (ne_eqb _ _ (λ (q : suc (length (unescaped s)) ≡ suc (length s)). n (omega (arith, q))))
+
+    by : (t : Bool) → length (unescaped_from true s) ≤ length s → not (list_any (λ b. eqb b 92) s) ≡ eqb (length (unescaped s)) (length s)
+        → not (t || list_any (λ b. eqb b 92) s) ≡ eqb (length (pick t (unescaped_from true s) (a ∷ unescaped s))) (suc (length s))
+    by true p e = sym (ne_eqb _ _ (λ (q : length (unescaped_from true s) ≡ suc (length s)). absurd (omega arith)))
+    by false p e = e ∙ on (eqb (length (unescaped s)) (length s)) refl

@@ -1,7 +1,7 @@
 // Values with backslashes: what a piece of one adds, and the whole decoded into lent memory.
 #![tactic(auto)]
 
-ghost use Rattle.std.specs.Prelude.{◌≡◌, ◌+◌, leb, eqb, length};
+ghost use Rattle.std.specs.Prelude.{◌≡◌, ◌+◌, ◌&&◌, not, leb, eqb, length};
 ghost use Rattle.byte.specs.Put.{written, after};
 ghost use Rattle.backslash.specs.Backslash.{gained_at, unescaped};
 
@@ -26,10 +26,11 @@ fn unescaped_len(raw: &[u8]) -> usize
     let mut behind = false;
     let mut len = 0;
     for &b in raw {
-        behind = is_sign(behind, b);
-        if behind {
+        if is_sign(behind, b) {
+            behind = true;
             continue;
         }
+        behind = false;
         len += 1;
     }
     len
@@ -67,12 +68,13 @@ pub fn unescape(src: &[u8], dst: &mut [u8], at: usize) -> usize
     let mut behind = false;
     let mut k = 0;
     for &b in src {
-        behind = is_sign(behind, b);
-        if behind {
+        if is_sign(behind, b) {
+            behind = true;
             continue;
         }
         dst[at + k] = b;
         k += 1;
+        behind = false;
     }
     at + k
 }
