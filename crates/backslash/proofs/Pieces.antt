@@ -3,12 +3,12 @@
 use mathlib.Core.Path.{◌≡◌, refl, sym, ap, ◌∙◌}
 use mathlib.Core.Bool.{Bool, true, false, not, ◌&&◌, ◌||◌}
 use mathlib.Core.List.{List, [], ◌∷◌}
-use Prim.Native.Nat.{ℕ, zero, suc, ◌+◌, ◌-◌, ◌<◌, ◌≤◌, zero-le, suc-le-suc}
+use Prim.Native.Nat.{ℕ, suc, ◌+◌, ◌<◌, ◌≤◌, zero-le, suc-le-suc}
 use native.Mathlib.Numerals.{add-one}
 use native.Mathlib.Omega.{arith}
-use lib.Dec.{eqb, ltb}
-use lib.ListN.{length, drop, take, get_or, length-drop, drop_of_length-le}
-use lib.Seq.{drop-cons, take-length}
+use lib.Dec.{eqb}
+use lib.ListN.{length, drop, take, get_or, drop_of_length-le}
+use lib.Seq.{drop-cons}
 use borrow.Author.Tests.{eq-eqb, ne_eqb, eqb-true, eqb-false}
 use Rattle.std.specs.List.{list_any}
 use Rattle.byte.specs.Byte.{pick}
@@ -120,6 +120,10 @@ module _ (ends : List ℕ → Bool) (s : List ℕ) (i : ℕ) (h : i < length s) 
 pub gained-itself : (s : List ℕ) (i : ℕ) → (get_or s i 0 ≡ 92 → ⊥) → i ≡ gained_at s i
 unfolding gained_at
 gained-itself s i n = rw (ne_eqb (get_or s i 0) 92 n)
+
+-- the byte that is gained stands no earlier than its piece
+pub gained-from : (s : List ℕ) (i : ℕ) → i < length s → (j : ℕ) → j ≡ gained_at s i → i ≤ j
+gained-from s i h j is = from-by j (piece-at s i j is)
 
 -- a decoded value is never longer than it is written
 shorter-from : (behind : Bool) (s : List ℕ) → length (unescaped_from behind s) ≤ length s

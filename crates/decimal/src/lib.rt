@@ -28,11 +28,9 @@ fn put_fixed(n: u64, base: u64, upper: bool, width: usize, dst: &mut [u8], at: u
         return at;
     }
     let mut m = n;
-    let mut k = width;
-    while 0 < k {
-        k -= 1;
-        dst[at + k] = digit_byte(upper, (m % base) as u8);
-        m = m / base;
+    for done in 0..width {
+        dst[at + (width - 1 - done)] = digit_byte(upper, (m % base) as u8);
+        m /= base;
     }
     at + width
 }

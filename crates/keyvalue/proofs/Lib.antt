@@ -4,3 +4,4 @@ pub mod Stands
 pub mod Reading
 pub mod Characters
 pub mod Examples
+pub mod Run

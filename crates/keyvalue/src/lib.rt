@@ -34,18 +34,16 @@ pub enum Step {
 fn skip_plain(s: &[u8], at: usize) -> usize
     ensures { (at ≤ result) × (result - at ≤ length s.now - at) × ((raw_at simple_len s.now at).to ≡ (raw_at simple_len s.now result).to) × ((raw_at simple_len s.now at).len ≡ result - at + (raw_at simple_len s.now result).len) }
 {
-    let mut i = at;
-    while i < s.len() {
-        let b = s[i];
-        if b == b'\\' {
-            return i;
-        }
-        if !scan::is_solid(b) {
-            return i;
-        }
-        i += 1;
+    if s.len() <= at {
+        return at;
     }
-    i
+    match s[at..]
+        .iter()
+        .position(|&b| b == b'\\' || !scan::is_solid(b))
+    {
+        Some(k) => at + k,
+        None => s.len(),
+    }
 }
 
 // A value that is not quoted: it runs to white space.

@@ -90,16 +90,13 @@ fn key_ends(s: &[u8], at: usize) -> bool
 pub fn keyword(s: &[u8], at: usize) -> usize
     ensures { result ≡ end_of key_len s.now at }
 {
-    let mut i = at;
-    while i < s.len() {
+    for i in at..s.len() {
         if byte::is_between(62, 0xc1, s[i]) {
-            i += 1;
             continue;
         }
         if key_ends(s, i) {
             return i;
         }
-        i += 1;
     }
-    i
+    at.max(s.len())
 }

@@ -44,7 +44,7 @@ pub bounds-dst-at : goal.bounds-dst-at
 bounds-dst-at c =
     let l = c.loop-b in
     let here_next : Filling c.args.dst.now c.args.at (unescaped c.args.src.now) (get_or c.args.src.now l.b-index 0 ∷ unescaped_from false (drop (l.b-index + 1) c.args.src.now)) l.dst l.k =
-        rw (sign-off c.args.src.now l.b-index l.behind _ c.loop-b-test.true c.is_sign.ensures c.if-is_sign.false) at l.invariant.1 in
+    rw (sign-off c.args.src.now l.b-index l.behind _ c.loop-b-test.true c.is_sign.ensures c.if-is_sign.false) at l.invariant.1 in
     fill-room _ _ _ l.invariant.0 _ _ _ _ here_next
 
 pub overflow_add-k : goal.overflow_add-k
@@ -55,7 +55,7 @@ pub loop-b-preserved : goal.loop-b-preserved
 loop-b-preserved c =
     let l = c.loop-b in
     let here_next : Filling c.args.dst.now c.args.at (unescaped c.args.src.now) (get_or c.args.src.now l.b-index 0 ∷ unescaped_from false (drop (l.b-index + 1) c.args.src.now)) l.dst l.k =
-        rw (sign-off c.args.src.now l.b-index l.behind _ c.loop-b-test.true c.is_sign.ensures c.if-is_sign.false) at l.invariant.1 in
+    rw (sign-off c.args.src.now l.b-index l.behind _ c.loop-b-test.true c.is_sign.ensures c.if-is_sign.false) at l.invariant.1 in
     (l.invariant.0, fill_more _ _ _ l.invariant.0 _ _ _ _ here_next)
 
 pub overflow_add-result : goal.overflow_add-result

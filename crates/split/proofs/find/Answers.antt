@@ -1,11 +1,9 @@
-use mathlib.Core.Path.{◌≡◌, ◌∙◌, sym}
-use lib.ListN.{drop, length, length-drop}
+use lib.ListN.{drop, length-drop}
 use lib.Dec.{eqb}
-use Rattle.std.proofs.Common.{rules, tests, ◌+◌, arith}
+use Rattle.std.proofs.Common.{rules, tests, arith}
 use Rattle.std.proofs.lemmas.Iterator.{YieldsList-from_slice}
 use Rattle.std.proofs.lemmas.Iterator.Search.{position_from_yields_List}
 use Rattle.byte.proofs.Scan.{place_found, place_none}
-use Rattle.split.specs.Split.{first_at}
 use Rattle.split.proofs.Split.{first-end, first-position, first-most}
 use Rattle.split.proofs.find.Goals as goal
 

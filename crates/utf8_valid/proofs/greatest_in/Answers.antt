@@ -1,7 +1,5 @@
 -- `greatest_in` meets its contract: as long as the greatest byte is ASCII, what follows decides. Assumes nothing.
-use mathlib.Core.Path.{◌≡◌, ap, ◌∙◌}
-use Prim.Native.Nat.{◌<◌}
-use lib.ListN.{get_or}
+use mathlib.Core.Path.{ap, ◌∙◌}
 use native.Mathlib.Omega.{arith}
 use Rattle.utf8.specs.declared.Char.{Char}
 use Rattle.utf8.proofs.Laws.{good, ascii, end}

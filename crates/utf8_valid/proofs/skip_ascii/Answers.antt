@@ -1,7 +1,7 @@
 -- `skip_ascii` meets its contract: an ASCII byte is a character, so that a text is well formed as it is behind it. Assumes nothing.
-use mathlib.Core.Path.{◌≡◌, refl}
+use mathlib.Core.Path.{◌≡◌}
 use mathlib.Core.Bool.{not}
-use Prim.Native.Nat.{◌+◌, ◌-◌, ◌≤◌}
+use Prim.Native.Nat.{◌+◌, ◌-◌}
 use lib.Dec.{leb}
 use lib.ListN.{length, drop, length-drop}
 use Rattle.std.proofs.Common.{rules, tests, arith}
