@@ -11,33 +11,10 @@ use lib.Dec.{ltb, leb}
 use lib.ListN.{take}
 use borrow.Author.Tests.{lt-ltb, le-ltb, ltb-true, ltb-false, leb-true}
 use Rattle.byte.proofs.Laws.{and_left, and_right}
-use Rattle.lists.specs.declared.Place.{Place}
-use Rattle.lists.specs.declared.HostKind.{HostKind}
 use Rattle.lists.specs.declared.Host.{Host}
-use Rattle.config.specs.declared.Text.{Text}
 use Rattle.config.specs.declared.Config.{Config}
 use Rattle.config.specs.Sound.{counted}
 use Rattle.room.specs.Room.{text_threes, kind_len, host_threes, threes, surely_fits}
-
--- a text
-module _ (left : ℕ) (t : Text) where
-  pub text-unset : t.set ≡ false → left ≡ left - text_threes t
-  unfolding text_threes
-  text-unset e = rw (e, sub-zero left)
-
-  pub text-set : t.set ≡ true → left - t.place.len ≡ left - text_threes t
-  unfolding text_threes
-  text-set e = rw e
-
--- a host, by its kind
-module _ (p : Place) (k : HostKind) where
-  pub tcp-len : k ≡ HostKind.Tcp p → p.len ≡ kind_len k
-  unfolding kind_len
-  tcp-len e = rw e
-
-  pub unix-len : k ≡ HostKind.Unix p → p.len ≡ kind_len k
-  unfolding kind_len
-  unix-len e = rw e
 
 -- the counted hosts, taken away one after the other
 pub hosts_taken : (from : ℕ) (hs : List Host) → fold (λ (left : ℕ) (h : Host). left - 4 - kind_len h.kind) from hs ≡ from - host_threes hs

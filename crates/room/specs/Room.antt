@@ -1,15 +1,15 @@
 -- How many bytes the report of a record has at most, by the record's lengths and counts alone, counted in threes: an escaped byte takes three.
 -- Assumes nothing.
-use Rattle.std.specs.Prelude.{ℕ, ◌+◌, ◌*◌, ◌/◌, Bool, ◌&&◌, List, [], ◌∷◌, ltb, take}
-use Rattle.byte.specs.Byte.{pick}
+use Rattle.std.specs.Prelude.{ℕ, ◌+◌, ◌*◌, ◌/◌, Bool, ◌&&◌, List, [], ◌∷◌, ltb, take, Option, Some, None}
+use Rattle.lists.specs.declared.Place.{Place}
 use Rattle.lists.specs.declared.HostKind.{HostKind}
 use Rattle.lists.specs.declared.Host.{Host}
-use Rattle.config.specs.declared.Text.{Text}
 use Rattle.config.specs.declared.Config.{Config}
 use Rattle.config.specs.Sound.{counted}
 
-unfoldable pub text_threes : Text → ℕ
-text_threes t = pick t.set t.place.len 0
+unfoldable pub text_threes : Option Place → ℕ
+text_threes (Some p) = p.len
+text_threes None = 0
 
 unfoldable pub kind_len : HostKind → ℕ
 kind_len (HostKind.Tcp p) = p.len

@@ -1,36 +1,25 @@
 // Whether a report surely has room, told from a record's lengths and counts alone, so that it needn't be measured first.
-#![tactic(auto)]
+#![tactic(auto, unfolding(crate::specs::Room::text_threes, crate::specs::Room::kind_len))]
 
 ghost use Rattle.std.specs.Prelude.{◌≡◌, ◌-◌, take};
 ghost use Rattle.room.specs.Room.{text_threes, kind_len, host_threes, surely_fits};
 
-use config::{Config, Text};
-use lists::{Host, HostKind, Hosts};
+use config::Config;
+use lists::{Host, HostKind, Hosts, Place};
 
-// What is left of `a` without `b`, or 0.
-fn minus(a: usize, b: usize) -> usize
-    ensures { result ≡ a - b }
-{
-    if a < b {
-        return 0;
-    }
-    a - b
-}
-
-fn without_text(left: usize, t: Text) -> usize
+fn without_text(left: usize, t: Option<Place>) -> usize
     ensures { result ≡ left - text_threes t }
 {
-    if !t.set {
-        return left;
+    match t {
+        Some(p) => left.saturating_sub(p.len),
+        None => left,
     }
-    minus(left, t.place.len)
 }
 
 fn host_len(h: Host) -> usize
     ensures { result ≡ kind_len h.kind }
 {
-    let kind = h.kind;
-    match kind {
+    match h.kind {
         HostKind::Tcp(p) => p.len,
         HostKind::Unix(p) => p.len,
     }
@@ -39,10 +28,10 @@ fn host_len(h: Host) -> usize
 fn without_hosts(from: usize, h: Hosts) -> usize
     ensures { result ≡ from - host_threes (take h.count h.list) }
 {
-    h.list
-        .iter()
-        .take(h.count)
-        .fold(from, |left, &host| minus(minus(left, 4), host_len(host)))
+    h.list.iter().take(h.count).fold(
+        from,
+        |left, &host| left.saturating_sub(4).saturating_sub(host_len(host)),
+    )
 }
 
 // Whether n bytes are enough for the report whatever the texts' bytes are; `false` tells nothing.
