@@ -19,9 +19,10 @@ use Rattle.keyvalue.specs.declared.Step.TheVariants.{Done, Refused, Found}
 use Rattle.keyvalue.specs.KeyValue.{parameter_at, reads, key_value_from, key_value}
 use Rattle.url_parser.proofs.Reading.{uri-most}
 use Rattle.url_parser.specs.Uri.{uri}
+use Rattle.std.specs.Prelude.{Result, Ok, Err, ⊤}
 use Rattle.lists.specs.declared.Fault.{Fault}
-use Rattle.lists.specs.declared.Fault.TheVariants.{NoFault, UnknownKey, Word, Form, Range, NoAddress, ManyHosts, ManyHostaddrs, ManyPorts}
-use Rattle.lists.specs.Fault.{is_fine, number_of, key_of}
+use Rattle.lists.specs.declared.Fault.TheVariants.{UnknownKey, Word, Form, Range, NoAddress, ManyHosts, ManyHostaddrs, ManyPorts}
+use Rattle.lists.specs.Fault.{is_fine, fault_number, number_of, key_of}
 use Rattle.config.specs.declared.Config.{Config}
 use Rattle.config.specs.Config.{defaults}
 use Rattle.apply.specs.Apply.{applied}
@@ -37,18 +38,21 @@ pub record Small (a : Answer) : Type 0 where
   pub count : a.count ≤ 8194
 
 -- a fault's number, and the key that it names
-fault-most : (f : Fault) → number_of f ≤ 15
-fault-most NoFault = omega arith
-fault-most UnknownKey = omega arith
-fault-most Word = omega arith
-fault-most Form = omega arith
-fault-most Range = omega arith
-fault-most NoAddress = omega arith
-fault-most ManyHosts = omega arith
-fault-most ManyHostaddrs = omega arith
-fault-most ManyPorts = omega arith
+one-most : (f : Fault) → fault_number f ≤ 15
+one-most UnknownKey = omega arith
+one-most Word = omega arith
+one-most Form = omega arith
+one-most Range = omega arith
+one-most NoAddress = omega arith
+one-most ManyHosts = omega arith
+one-most ManyHostaddrs = omega arith
+one-most ManyPorts = omega arith
 
-key-most : (f : Fault) (k : ℕ) → k ≤ 20 → key_of f k ≤ 20
+fault-most : (r : Result ⊤ Fault) → number_of r ≤ 15
+fault-most (Ok x) = omega arith
+fault-most (Err f) = one-most f
+
+key-most : (f : Result ⊤ Fault) (k : ℕ) → k ≤ 20 → key_of f k ≤ 20
 key-most f k h = by (eqb (number_of f) 5)
   where
     by : (t : Bool) → pick t k 0 ≤ 20
@@ -107,7 +111,7 @@ unfolding outcome
 outcome-small c b n [] end h m =
     pick-outcome (eqb end 0) (outcome-of-one 0 0 n c b (omega arith) (omega arith) (omega arith)) (outcome-of-one end 0 n defaults [] (omega arith) (omega arith) (omega arith))
 outcome-small c b n (s ∷ ss) end h m =
-    let f : Fault = (applied (kind_of s) (value_of s) (length b) c).fault in
+    let f : Result ⊤ Fault = (applied (kind_of s) (value_of s) (length b) c).fault in
     let c' : Config = (applied (kind_of s) (value_of s) (length b) c).config in
     pick-outcome (is_fine f) (outcome-small c' (b ++ kept s) (n + 1) ss end h (omega arith))
     (outcome-of-one (number_of f) (key_of f (kind_of s)) n defaults [] (fault-most f) (key-most f (kind_of s) (kind-most s)) (omega arith))

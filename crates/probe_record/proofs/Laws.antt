@@ -8,6 +8,7 @@ use native.Mathlib.Omega.{arith}
 use lib.Dec.{eqb, ltb}
 use lib.ListN.{get_or}
 use borrow.Author.Tests.{eq-eqb, ne_eqb, lt-ltb, le-ltb}
+use Rattle.std.specs.Prelude.{Result, ⊤, Ok, Err, is_err}
 use Rattle.byte.specs.Byte.{pick, part_of}
 use Rattle.names.specs.Find.{key_number}
 use Rattle.lists.specs.declared.Fault.{Fault}
@@ -15,7 +16,7 @@ use Rattle.lists.specs.Fault.{is_fine, number_of, key_of}
 use Rattle.lists.proofs.Faults.{fault-numbered}
 use Rattle.config.specs.declared.Config.{Config}
 use Rattle.apply.specs.Apply.{applied}
-use Rattle.list_keys.specs.Sets.{Sets}
+use Rattle.param.specs.Sets.{Sets}
 use Rattle.report.specs.declared.Answer.{Answer}
 use Rattle.report.specs.Answer.{reported, reported_into}
 use Rattle.probe_record.specs.declared.Given.{Given}
@@ -36,7 +37,7 @@ abbrev pub on : ℕ → Config → Settled
 on at c = record { number = 0; key = 0; at = at; config = c }
 
 -- no record is promised of a refusal
-pub no_record : {A : Type 0} → (f : Fault) → is_fine f ≡ false → (r : ℕ) → r ≡ number_of f → r ≡ 0 → A
+pub no_record : {A : Type 0} → (f : Result ⊤ Fault) → is_fine f ≡ false → (r : ℕ) → r ≡ number_of f → r ≡ 0 → A
 no_record f e r q z = absurd (fault-numbered f e (sym q ∙ z))
 
 module _ (l : List ℕ) where
@@ -68,7 +69,7 @@ module _ (n : ℕ) (l : List ℕ) (at : ℕ) (c : Config) where
   far f = settled-still l n (on at c) (step-far f)
 
   -- the next one comes to the fault f and, with none, to the record r
-  module _ (h : 0 < n) (near : at ≤ 65536) (g : Given) (p : g ≡ given_at l at) (f : Fault) (r : Config)
+  module _ (h : 0 < n) (near : at ≤ 65536) (g : Given) (p : g ≡ given_at l at) (f : Result ⊤ Fault) (r : Config)
       (x : Sets f (applied g.kind (part_of g.start g.end l) g.start c) r) where
     step-on : step_of l (on at c) ≡ booked g (applied g.kind (part_of g.start g.end l) g.start c) (on at c)
     unfolding step_of
@@ -118,3 +119,12 @@ pub told_of : (s t : Settled) → s ≡ t → (l d e : List ℕ) (room : ℕ) (a
     → (record { number = s.number; key = s.key; at = s.at; len = n } ≡ told t l room) × (e ≡ reported_into l t.config d)
 unfolding told
 told_of s t q l d e room a p w n r = (rw (r, p, q), w ∙ ap (λ (x : Settled). reported_into l x.config d) q)
+
+-- what is_err says of a verdict
+pub bad-is : (f : Result ⊤ Fault) → is_err f ≡ true → is_fine f ≡ false
+bad-is (Ok x) e = cc
+bad-is (Err x) e = refl
+
+pub fine-is : (f : Result ⊤ Fault) → is_err f ≡ false → is_fine f ≡ true
+fine-is (Ok x) e = refl
+fine-is (Err x) e = cc

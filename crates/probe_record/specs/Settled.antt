@@ -5,8 +5,7 @@ use Rattle.byte.specs.Byte.{pick, part_of}
 use Rattle.names.specs.Find.{key_number}
 use Rattle.lists.specs.Fault.{is_fine, number_of, key_of}
 use Rattle.config.specs.Config.{defaults}
-use Rattle.apply.specs.declared.Applied.{Applied}
-use Rattle.apply.specs.Apply.{applied}
+use Rattle.apply.specs.Apply.{Applied, applied}
 use Rattle.report.specs.declared.Answer.{Answer}
 use Rattle.report.specs.Answer.{reported}
 use Rattle.probe_record.specs.declared.Given.{Given}

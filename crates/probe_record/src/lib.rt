@@ -5,8 +5,7 @@ ghost use Rattle.std.specs.Prelude.{◌≡◌, ◌≤◌, length};
 ghost use Rattle.report.specs.Answer.{reported_into};
 ghost use Rattle.lists.specs.Fault.{number_of, key_of};
 ghost use Rattle.config.specs.Config.{defaults};
-ghost use Rattle.rows.specs.Rows.{config_of};
-ghost use Rattle.probe_record.specs.Settled.{value_at, given_at, first, settled, reached_of, refusal, told_len, told};
+ghost use Rattle.probe_record.specs.Settled.{value_at, given_at, first, settled, reached_of, told_len, told};
 
 use config::Config;
 use lists::Fault;
@@ -54,8 +53,8 @@ fn value_at(list: &[u8], kind: usize, at: usize) -> Given
     let low = byte::at(list, at + 1) as usize;
     let start = at + 2;
     Given {
-        kind: kind,
-        start: start,
+        kind,
+        start,
         end: start + (high * 256 + low),
     }
 }
@@ -81,95 +80,56 @@ fn reach(at: usize) -> Reached
     Reached {
         number: 0,
         key: 0,
-        at: at,
+        at,
     }
 }
 
 // The setting of a kind refused that stands at a place.
-fn refuse_at(fault: Fault, kind: usize, at: usize) -> Reached
-    ensures { result ≡ record { number = number_of fault; key = key_of fault kind; at = at } }
+fn refuse_at(verdict: Result<(), Fault>, kind: usize, at: usize) -> Reached
+    ensures { result ≡ record { number = number_of verdict; key = key_of verdict kind; at = at } }
 {
     Reached {
-        number: lists::number_of(fault),
-        key: lists::key_of(fault, kind),
-        at: at,
+        number: lists::number_of(verdict),
+        key: lists::key_of(verdict, kind),
+        at,
     }
 }
 
-// The first n settings of a list, applied in order to the rows.
-fn settle_rows(
-    n: usize,
-    list: &[u8],
-    fields: &mut [usize; 32],
-    hosts: &mut [usize; 48],
-    sixes: &mut [u64; 48],
-    fours: &mut [u32; 17],
-    ports: &mut [u16; 16],
-) -> Reached
-    requires { config_of fields.old hosts.old sixes.old fours.old ports.old ≡ defaults }
+// The first n settings of a list, applied in order to a record.
+fn settle_into(n: usize, list: &[u8], config: &mut Config) -> Reached
+    requires { config.old ≡ defaults }
     ensures value { result ≡ reached_of (settled n list.now first) }
-    ensures ports_after { result.number ≡ 0 → config_of fields.new hosts.new sixes.new fours.new ports.new ≡ (settled n list.now first).config }
+    ensures config_after { result.number ≡ 0 → config.new ≡ (settled n list.now first).config }
 {
     let mut at: usize = 0;
-    let mut left = n;
-    while 0 < left {
+    for _ in 0..n {
         if 65536 < at {
             return reach(at);
         }
         let g = given_at(list, at);
-        let kind = g.kind;
-        let fault = param::param(
-            fields, hosts, sixes, fours, ports, kind, list, g.start, g.end,
-        );
-        if !lists::is_fine(fault) {
-            return refuse_at(fault, kind, at);
+        let verdict = param::param(config, g.kind, list, g.start, g.end);
+        if verdict.is_err() {
+            return refuse_at(verdict, g.kind, at);
         }
         at = g.end;
-        left -= 1;
     }
     reach(at)
 }
 
-// A refusal, with the default record.
-fn refuse(e: Reached) -> Settled
-    ensures { result ≡ refusal e }
-{
-    let config = Config::new();
-    Settled {
-        number: e.number,
-        key: e.key,
-        at: e.at,
-        config: config,
-    }
-}
-
-// The first n settings of a list.
+// The first n settings of a list. A refusal gives the default record.
 fn settle(n: usize, list: &[u8]) -> Settled
     ensures { result ≡ settled n list.now first }
 {
-    let mut fields = rows::first_fields();
-    let mut hosts = [0usize; 48];
-    let mut sixes = [0u64; 48];
-    let mut fours = [0u32; 17];
-    let mut ports = [0u16; 16];
-    let e = settle_rows(
-        n,
-        list,
-        &mut fields,
-        &mut hosts,
-        &mut sixes,
-        &mut fours,
-        &mut ports,
-    );
+    let mut config = Config::new();
+    let e = settle_into(n, list, &mut config);
     if e.number != 0 {
-        return refuse(e);
+        config = Config::new();
     }
-    let config = record::config_of(&fields, &hosts, &sixes, &fours, &ports);
     Settled {
         number: e.number,
         key: e.key,
         at: e.at,
-        config: config,
+        config,
     }
 }
 
@@ -191,15 +151,11 @@ pub extern "C" fn probe_settings(n: usize, list: &[u8], dst: &mut [u8]) -> Told
     ensures dst_after { dst.new ≡ reported_into list.now (settled n list.now first).config dst.old }
 {
     let s = settle(n, list);
-    let number = s.number;
-    let key = s.key;
-    let at = s.at;
-    let config = s.config;
-    let a = report::report(config, list, dst);
+    let a = report::report(s.config, list, dst);
     Told {
-        number: number,
-        key: key,
-        at: at,
+        number: s.number,
+        key: s.key,
+        at: s.at,
         len: tell_len(a),
     }
 }
