@@ -1,9 +1,10 @@
 -- A key is told by its first two bytes and its length: no two keys have the same mark.
 -- Assumes nothing.
-use Prim.Native.Nat.{ℕ, suc, ◌+◌, ◌-◌, ◌%◌, ◌≤◌, ◌<◌}
+use Prim.Native.Nat.{ℕ, zero, suc, ◌+◌, ◌-◌, ◌%◌, ◌≤◌, ◌<◌}
 use mathlib.Core.Path.{◌≡◌, refl, sym, ap, ◌∙◌}
 use mathlib.Core.Bool.{Bool, true, false}
 use mathlib.Core.List.{List, [], ◌∷◌}
+use native.Mathlib.Numerals.{add-one}
 use native.Mathlib.Omega.{arith}
 use lib.Dec.{eqb}
 use lib.ListN.{length, get_or}
@@ -16,8 +17,8 @@ use Rattle.name_table.specs.Names.{fixed, key_names, key_name}
 use Rattle.name_table.specs.Find.{key_number}
 use Rattle.name_table.proofs.Arms.{Not, member, not-member}
 use Rattle.name_table.proofs.Among.{Found, number-found}
-use Rattle.name_table.proofs.Rows.{key}
-use Rattle.name_table.proofs.Examples.{key-own}
+use Rattle.name_table.proofs.Rows.{key, no-name-zero}
+use Rattle.name_table.proofs.Examples.{key-own, no-empty}
 
 unfoldable pub mark : List ℕ → ℕ
 mark s = (get_or s 0 0 + get_or s 0 0 + get_or s 1 0 + length s % 64) % 64
@@ -86,9 +87,6 @@ module _ (s : List ℕ) (k : ℕ) (only : (key_number s ≡ 0 → ⊥) → k ≡
   either true e n f g = let z : key_number s ≡ 0 = eqb-true (key_number s) 0 e in f z ∙ sym z
   either false e n f g = g (eqb-false (key_number s) 0 e)
 
-  pub absent : k ≡ 0 → 0 ≡ key_number s
-  absent e = either (eqb (key_number s) 0) refl 0 (λ z. refl) (λ some. sym e ∙ only some)
-
   pub other : k ≤ 19 → same s (get_or fixed k []) ≡ false → 0 ≡ key_number s
   other h e = either (eqb (key_number s) 0) refl 0 (λ z. refl) (λ some. differs some)
     where
@@ -98,9 +96,11 @@ module _ (s : List ℕ) (k : ℕ) (only : (key_number s ≡ 0 → ⊥) → k ≡
           let bad : false ≡ true = sym e ∙ ap (same s) q ∙ same_refl s in
           cc
 
-pub present : (s : List ℕ) (k : ℕ) → (k ≡ 0 → ⊥) → k ≤ 19 → same s (get_or fixed k []) ≡ true → k ≡ key_number s
-present s k p h e =
-    let q : s ≡ key_name k = same_true s (get_or fixed k []) e ∙ key k (omega arith) in
-    let n : k - 1 + 1 ≡ k = omega (arith, p) in
-    let o : key_number (key_name k) ≡ k = rw n at (key-own (k - 1) (omega (arith, p))) in
+pub present : (s : List ℕ) (k : ℕ) → k ≤ 19 → same s (get_or fixed k []) ≡ true → k ≡ key_number s
+present s zero h e =
+    let q : s ≡ [] = same_true s (get_or fixed 0 []) e ∙ no-name-zero in
+    sym (ap key_number q ∙ no-empty)
+present s (suc k) h e =
+    let q : s ≡ key_name (suc k) = same_true s (get_or fixed (suc k) []) e ∙ key (suc k) (omega arith) in
+    let o : key_number (key_name (suc k)) ≡ suc k = rw add-one at (key-own k (omega arith)) in
     sym (ap key_number q ∙ o)

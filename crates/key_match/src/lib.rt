@@ -39,118 +39,31 @@ fn likely_key(s: &[u8]) -> usize
     }
 }
 
-// The keys each by itself, too: a compiler sees through a comparison with one of these, and not through one with a part of a table.
-const USER: [u8; 4] = *b"user";
-
-const PASSWORD: [u8; 8] = *b"password";
-
-const DBNAME: [u8; 6] = *b"dbname";
-
-const OPTIONS: [u8; 7] = *b"options";
-
-const APPLICATION_NAME: [u8; 16] = *b"application_name";
-
-const SSLMODE: [u8; 7] = *b"sslmode";
-
-const SSLNEGOTIATION: [u8; 14] = *b"sslnegotiation";
-
-const HOST: [u8; 4] = *b"host";
-
-const HOSTADDR: [u8; 8] = *b"hostaddr";
-
-const PORT: [u8; 4] = *b"port";
-
-const CONNECT_TIMEOUT: [u8; 15] = *b"connect_timeout";
-
-const TCP_USER_TIMEOUT: [u8; 16] = *b"tcp_user_timeout";
-
-const KEEPALIVES: [u8; 10] = *b"keepalives";
-
-const KEEPALIVES_IDLE: [u8; 15] = *b"keepalives_idle";
-
-const KEEPALIVES_INTERVAL: [u8; 19] = *b"keepalives_interval";
-
-const KEEPALIVES_RETRIES: [u8; 18] = *b"keepalives_retries";
-
-const TARGET_SESSION_ATTRS: [u8; 20] = *b"target_session_attrs";
-
-const CHANNEL_BINDING: [u8; 15] = *b"channel_binding";
-
-const LOAD_BALANCE_HOSTS: [u8; 18] = *b"load_balance_hosts";
-
-// Whether `s` is name k, a few keys a function, which keeps each of them small; the first to ask is is_short_key.
-fn is_balance_key(s: &[u8], k: usize) -> bool
+// Whether `s` is name k. Each key is asked for by a constant, since a compiler sees through a comparison with a name that it knows.
+fn is_key(s: &[u8], k: usize) -> bool
     ensures { result ≡ same s.now (get_or fixed k []) }
 {
     match k {
-        19 => byte::equals(s, &LOAD_BALANCE_HOSTS),
+        1 => name_table::is_name(s, 1),
+        2 => name_table::is_name(s, 2),
+        3 => name_table::is_name(s, 3),
+        4 => name_table::is_name(s, 4),
+        5 => name_table::is_name(s, 5),
+        6 => name_table::is_name(s, 6),
+        7 => name_table::is_name(s, 7),
+        8 => name_table::is_name(s, 8),
+        9 => name_table::is_name(s, 9),
+        10 => name_table::is_name(s, 10),
+        11 => name_table::is_name(s, 11),
+        12 => name_table::is_name(s, 12),
+        13 => name_table::is_name(s, 13),
+        14 => name_table::is_name(s, 14),
+        15 => name_table::is_name(s, 15),
+        16 => name_table::is_name(s, 16),
+        17 => name_table::is_name(s, 17),
+        18 => name_table::is_name(s, 18),
+        19 => name_table::is_name(s, 19),
         _ => name_table::is_name(s, k),
-    }
-}
-
-fn is_target_key(s: &[u8], k: usize) -> bool
-    ensures { result ≡ same s.now (get_or fixed k []) }
-{
-    match k {
-        17 => byte::equals(s, &TARGET_SESSION_ATTRS),
-        18 => byte::equals(s, &CHANNEL_BINDING),
-        _ => is_balance_key(s, k),
-    }
-}
-
-fn is_retry_key(s: &[u8], k: usize) -> bool
-    ensures { result ≡ same s.now (get_or fixed k []) }
-{
-    match k {
-        15 => byte::equals(s, &KEEPALIVES_INTERVAL),
-        16 => byte::equals(s, &KEEPALIVES_RETRIES),
-        _ => is_target_key(s, k),
-    }
-}
-
-fn is_alive_key(s: &[u8], k: usize) -> bool
-    ensures { result ≡ same s.now (get_or fixed k []) }
-{
-    match k {
-        13 => byte::equals(s, &KEEPALIVES),
-        14 => byte::equals(s, &KEEPALIVES_IDLE),
-        _ => is_retry_key(s, k),
-    }
-}
-
-fn is_timeout_key(s: &[u8], k: usize) -> bool
-    ensures { result ≡ same s.now (get_or fixed k []) }
-{
-    match k {
-        11 => byte::equals(s, &CONNECT_TIMEOUT),
-        12 => byte::equals(s, &TCP_USER_TIMEOUT),
-        _ => is_alive_key(s, k),
-    }
-}
-
-fn is_session_key(s: &[u8], k: usize) -> bool
-    ensures { result ≡ same s.now (get_or fixed k []) }
-{
-    match k {
-        5 => byte::equals(s, &APPLICATION_NAME),
-        7 => byte::equals(s, &SSLNEGOTIATION),
-        _ => is_timeout_key(s, k),
-    }
-}
-
-fn is_short_key(s: &[u8], k: usize) -> bool
-    ensures { result ≡ same s.now (get_or fixed k []) }
-{
-    match k {
-        1 => byte::equals(s, &USER),
-        2 => byte::equals(s, &PASSWORD),
-        3 => byte::equals(s, &DBNAME),
-        4 => byte::equals(s, &OPTIONS),
-        6 => byte::equals(s, &SSLMODE),
-        8 => byte::equals(s, &HOST),
-        9 => byte::equals(s, &HOSTADDR),
-        10 => byte::equals(s, &PORT),
-        _ => is_session_key(s, k),
     }
 }
 
@@ -159,8 +72,5 @@ pub fn number_of(s: &[u8]) -> usize
     ensures { result ≡ key_number s.now }
 {
     let key = likely_key(s);
-    if key == 0 {
-        return 0;
-    }
-    if is_short_key(s, key) { key } else { 0 }
+    if is_key(s, key) { key } else { 0 }
 }

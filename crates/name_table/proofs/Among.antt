@@ -53,16 +53,6 @@ pub number-found : (l : List (List ℕ)) (s : List ℕ) → (number_in l s ≡ 0
 unfolding number_in
 number-found l s h = among-found 1 l s h
 
--- two names and three, by the tests for them
-pub of_two : (v w s : List ℕ) (p q : Bool) → p ≡ same s v → q ≡ same s w → number_in (v ∷ w ∷ []) s ≡ pick p 1 (pick q 2 0)
-unfolding number_in among
-of_two v w s p q e f = rw (e, f)
-
-pub of_three : (u v w s : List ℕ) (o p q : Bool) → o ≡ same s u → p ≡ same s v → q ≡ same s w
-    → number_in (u ∷ v ∷ w ∷ []) s ≡ pick o 1 (pick p 2 (pick q 3 0))
-unfolding number_in among
-of_three u v w s o p q d e f = rw (d, e, f)
-
 among_none : (k : ℕ) (s : List ℕ) → among k [] s ≡ 0
 unfolding among
 among_none k s = refl

@@ -1,11 +1,10 @@
 -- What is left where no arm of a `match` on a number took it.
 -- Assumes nothing.
 use Prim.{Unit}
-use Prim.Native.Nat.{ℕ, zero, suc, ◌≤◌}
+use Prim.Native.Nat.{ℕ}
 use mathlib.Core.Path.{◌≡◌, refl}
 use mathlib.Core.Bool.{Bool, false, ◌||◌}
 use mathlib.Core.List.{List, [], ◌∷◌}
-use native.Mathlib.Omega.{arith}
 use lib.Dec.{eqb}
 use borrow.Author.Tests.{ne_eqb}
 
@@ -21,12 +20,3 @@ member k (x ∷ xs) = eqb k x || member k xs
 pub not-member : (xs : List ℕ) (k : ℕ) → Not xs k → member k xs ≡ false
 not-member [] k r = refl
 not-member (x ∷ xs) k r = rw (ne_eqb k x r.1) (not-member xs k r.0)
-
--- the arms 1 to n
-abbrev pub down_from : ℕ → List ℕ
-down_from zero = []
-down_from (suc n) = suc n ∷ down_from n
-
-pub above : (n k : ℕ) → Not (down_from n) k → 1 ≤ k → suc n ≤ k
-above zero k r h = h
-above (suc n) k r h = let l = above n k r.0 h in let d = r.1 in omega arith

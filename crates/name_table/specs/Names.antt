@@ -1,4 +1,4 @@
--- The fixed byte strings of document 01: the nineteen keys, the words of five of them, and the two prefixes of a URI.
+-- The fixed byte strings: the nineteen keys, the words of five of them, and the two prefixes of a URI.
 -- Assumes nothing.
 use Rattle.std.specs.Prelude.{ℕ, List, [], ◌∷◌, ◌++◌, get_or}
 use Rattle.byte.specs.Ascii.{bytes}
@@ -91,11 +91,6 @@ words_of k = get_or word_lists k []
 unfoldable pub fixed : List (List ℕ)
 fixed =
     ([] ∷ key_names) ++ ssl_mode_words ++ ssl_negotiation_words ++ target_session_attrs_words ++ channel_binding_words ++ load_balance_hosts_words ++ prefixes
-
--- where each name starts in a row of its own kind: the names of up to eight bytes, and the longer ones, each written once
-unfoldable pub starts : List ℕ
-starts =
-    0 ∷ 0 ∷ 4 ∷ 12 ∷ 18 ∷ 0 ∷ 25 ∷ 16 ∷ 32 ∷ 36 ∷ 44 ∷ 30 ∷ 45 ∷ 61 ∷ 71 ∷ 86 ∷ 105 ∷ 123 ∷ 143 ∷ 158 ∷ 48 ∷ 55 ∷ 61 ∷ 68 ∷ 76 ∷ 82 ∷ 176 ∷ 186 ∷ 48 ∷ 55 ∷ 61 ∷ 48 ∷ 85 ∷ 195 ∷ 206 ∷ []
 
 -- the name of key k, and word w of key k, counted from 1; nothing where there is none
 unfoldable pub key_name : ℕ → List ℕ

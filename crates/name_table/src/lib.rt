@@ -1,120 +1,62 @@
-// Every fixed byte string in two tables, compared with a lent text and written from it.
+// Every fixed byte string in one table, compared with a lent text and written from it.
 #![tactic(auto)]
 
 ghost use Rattle.std.specs.Prelude.{◌≡◌, [], length, get_or};
 ghost use Rattle.byte.specs.Same.{same};
 ghost use Rattle.byte.specs.Put.{written, after};
-ghost use Rattle.name_table.specs.Names.{fixed, starts};
+ghost use Rattle.name_table.specs.Names.{fixed};
 
-// The names of up to eight bytes, and the longer ones: keys, words, prefixes. Name i starts at start_of(i) in its table; key k is name k, name 0 is empty.
-const SHORT: [u8; 91] =
-    *b"userpassworddbnameoptionssslmodehosthostaddrportdisablepreferrequirepostgresdirectanyrandom";
-
-const LONG: [u8; 219] =
-    *b"application_namesslnegotiationconnect_timeouttcp_user_timeoutkeepaliveskeepalives_idlekeepalives_intervalkeepalives_retriestarget_session_attrschannel_bindingload_balance_hostsread-writeread-onlypostgres://postgresql://";
-
-// How long name i is. A `match` becomes a table that lies ready, while an array is made anew at each use.
-pub fn name_len(i: usize) -> usize
-    ensures { result ≡ length (get_or fixed i []) }
+// Name i: key k is name k; then the words, key by key, some of them of several keys, and the prefixes. Any other name is empty.
+#[tactic(auto, unfolding(crate::specs::Names::fixed))]
+pub fn name(i: usize) -> &'static [u8]
+    ensures { result.now ≡ get_or fixed i [] }
 {
     match i {
-        1 => 4,
-        2 => 8,
-        3 => 6,
-        4 => 7,
-        5 => 16,
-        6 => 7,
-        7 => 14,
-        8 => 4,
-        9 => 8,
-        10 => 4,
-        11 => 15,
-        12 => 16,
-        13 => 10,
-        14 => 15,
-        15 => 19,
-        16 => 18,
-        17 => 20,
-        18 => 15,
-        19 => 18,
-        20 => 7,
-        21 => 6,
-        22 => 7,
-        23 => 8,
-        24 => 6,
-        25 => 3,
-        26 => 10,
-        27 => 9,
-        28 => 7,
-        29 => 6,
-        30 => 7,
-        31 => 7,
-        32 => 6,
-        33 => 11,
-        34 => 13,
-        _ => 0,
+        1 => b"user",
+        2 => b"password",
+        3 => b"dbname",
+        4 => b"options",
+        5 => b"application_name",
+        6 => b"sslmode",
+        7 => b"sslnegotiation",
+        8 => b"host",
+        9 => b"hostaddr",
+        10 => b"port",
+        11 => b"connect_timeout",
+        12 => b"tcp_user_timeout",
+        13 => b"keepalives",
+        14 => b"keepalives_idle",
+        15 => b"keepalives_interval",
+        16 => b"keepalives_retries",
+        17 => b"target_session_attrs",
+        18 => b"channel_binding",
+        19 => b"load_balance_hosts",
+        20 | 28 | 31 => b"disable",
+        21 | 29 => b"prefer",
+        22 | 30 => b"require",
+        23 => b"postgres",
+        24 => b"direct",
+        25 => b"any",
+        26 => b"read-write",
+        27 => b"read-only",
+        32 => b"random",
+        33 => b"postgres://",
+        34 => b"postgresql://",
+        _ => b"",
     }
 }
 
-// Where name i starts in its table.
-fn start_of(i: usize) -> usize
-    ensures { result ≡ get_or starts i 0 }
+pub fn name_len(i: usize) -> usize
+    ensures { result ≡ length (get_or fixed i []) }
 {
-    match i {
-        1 => 0,
-        2 => 4,
-        3 => 12,
-        4 => 18,
-        5 => 0,
-        6 => 25,
-        7 => 16,
-        8 => 32,
-        9 => 36,
-        10 => 44,
-        11 => 30,
-        12 => 45,
-        13 => 61,
-        14 => 71,
-        15 => 86,
-        16 => 105,
-        17 => 123,
-        18 => 143,
-        19 => 158,
-        20 => 48,
-        21 => 55,
-        22 => 61,
-        23 => 68,
-        24 => 76,
-        25 => 82,
-        26 => 176,
-        27 => 186,
-        28 => 48,
-        29 => 55,
-        30 => 61,
-        31 => 48,
-        32 => 85,
-        33 => 195,
-        34 => 206,
-        _ => 0,
-    }
+    name(i).len()
 }
 
 // Whether `s` is name i.
 pub fn is_name(s: &[u8], i: usize) -> bool
     ensures { result ≡ same s.now (get_or fixed i []) }
 {
-    let n = name_len(i);
-    if s.len() != n {
-        return false;
-    }
-    let a = start_of(i);
-    let e = a + n;
-    if n <= 8 {
-        let names = SHORT;
-        return byte::equals(s, &names[a..e]);
-    }
-    let names = LONG;
-    byte::equals(s, &names[a..e])
+    byte::equals(s, name(i))
 }
 
 // Writes name i, as `byte::copy` does.
@@ -122,13 +64,5 @@ pub fn put_name(i: usize, dst: &mut [u8], at: usize) -> usize
     ensures value { result ≡ after dst.old at (get_or fixed i []) }
     ensures dst_after { dst.new ≡ written dst.old at (get_or fixed i []) }
 {
-    let n = name_len(i);
-    let a = start_of(i);
-    let e = a + n;
-    if n <= 8 {
-        let names = SHORT;
-        return byte::copy(&names[a..e], dst, at);
-    }
-    let names = LONG;
-    byte::copy(&names[a..e], dst, at)
+    byte::copy(name(i), dst, at)
 }
