@@ -1,23 +1,15 @@
 -- The bytes at a place, as far as they stand in the buffer.
 -- Assumes nothing.
-use Prim.Native.Nat.{ℕ, ◌+◌, ◌-◌, ◌<◌, ◌≤◌}
-use mathlib.Core.Path.{◌≡◌, sym, ◌∙◌}
-use mathlib.Core.List.{List, []}
-use native.Mathlib.Omega.{arith}
-use lib.ListN.{length, take, drop, length-drop, drop_of_length-le}
-use lib.Seq.{take-nil, take_all}
+use Rattle.std.proofs.Common.{◌≡◌, ℕ, ◌-◌, List, length, take, drop, arith, length-drop}
+use Rattle.std.specs.Prelude.{min}
+use Rattle.std.proofs.lemmas.List.{take_min, drop_min}
+use lib.Seq.{take_all}
 use Rattle.lists.specs.declared.Place.{Place}
 use Rattle.config.specs.Values.{place_shown}
 
-module _ (b : List ℕ) (p : Place) where
-  pub bytes_past : length b ≤ p.start → [] ≡ place_shown b p
-  unfolding place_shown
-  bytes_past h = sym (rw (drop_of_length-le b h) (take-nil p.len))
-
-  pub bytes_rest : length b - p.start < p.len → take (length b - p.start) (drop p.start b) ≡ place_shown b p
-  unfolding place_shown
-  bytes_rest h = take_all (length b - p.start) (drop p.start b) (omega (arith, length-drop p.start b)) ∙ sym (take_all p.len (drop p.start b) (omega (arith, length-drop p.start b)))
-
-  pub bytes_whole : take (p.start + p.len - p.start) (drop p.start b) ≡ place_shown b p
-  unfolding place_shown
-  bytes_whole = let n : p.start + p.len - p.start ≡ p.len = omega arith in rw n
+-- from the place's start, or from the buffer's end, at most as many as the place has
+pub bytes-cut : (b : List ℕ) (p : Place) (m n : ℕ) → m ≡ min p.start (length b) → n ≡ min p.len (length (take (length b - m) (drop m b))) → take n (take (length b - m) (drop m b)) ≡ place_shown b p
+unfolding place_shown
+bytes-cut b p m n e f =
+    let whole : take (length b - m) (drop m b) ≡ drop m b = take_all (length b - m) (drop m b) (omega (arith, length-drop m b)) in
+    rw (f, whole, take_min p.len (drop m b), e, drop_min p.start b)

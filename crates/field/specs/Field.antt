@@ -1,7 +1,6 @@
--- What a field of a record reads as in the report, by document 01.
+-- What a field of a record reads as in the report.
 -- Assumes nothing.
-use Rattle.std.specs.Prelude.{ℕ, Bool, true, false, List, [], ◌∷◌}
-use Rattle.std.proofs.Math.Option.{Option, some, none}
+use Rattle.std.specs.Prelude.{ℕ, Bool, true, false, List, [], ◌∷◌, Option, Some, None}
 use Rattle.byte.specs.Byte.{pick}
 use Rattle.line.specs.Line.{host_value, number_value}
 use Rattle.config.specs.declared.SslMode.{SslMode}
@@ -11,7 +10,7 @@ use Rattle.config.specs.declared.ChannelBinding.{ChannelBinding}
 use Rattle.config.specs.declared.LoadBalanceHosts.{LoadBalanceHosts}
 use Rattle.config.specs.Values.{HostValue, tcp, unix}
 
--- the number of each word among those of its key, as document 01 lists them: sslmode (disable, prefer, require),
+-- the number of each word among those of its key: sslmode (disable, prefer, require),
 abbrev pub mode_number : SslMode → ℕ
 mode_number SslMode.Disable = 1
 mode_number SslMode.Prefer = 2
@@ -41,8 +40,8 @@ balance_number LoadBalanceHosts.Random = 2
 
 -- what may be unset: no value, or one
 abbrev pub optional : {A : Type 0} → (A → List (List ℕ)) → Option A → List (List (List ℕ))
-optional f none = []
-optional f (some x) = f x ∷ []
+optional f None = []
+optional f (Some x) = f x ∷ []
 
 abbrev pub named_host : HostValue → List (List ℕ)
 named_host (tcp x) = host_value false x

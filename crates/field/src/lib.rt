@@ -14,22 +14,14 @@ use lists::{Host, HostKind, Place};
 pub fn bytes_at(decode: &[u8], p: Place) -> &[u8]
     ensures { result.now ≡ place_shown decode.now p }
 {
-    let start = p.start;
-    if decode.len() <= start {
-        return &decode[0..0];
-    }
-    if decode.len() - start < p.len {
-        return &decode[start..];
-    }
-    let end = start + p.len;
-    &decode[start..end]
+    let rest = &decode[p.start.min(decode.len())..];
+    &rest[..p.len.min(rest.len())]
 }
 
 pub fn put_host(h: Host, decode: &[u8], dst: &mut [u8], pen: Pen) -> Pen
     ensures { sheet dst.new result ≡ drawn (sheet dst.old pen) (line 8 (named_host (host_shown decode.now h))) }
 {
-    let kind = h.kind;
-    match kind {
+    match h.kind {
         HostKind::Tcp(p) => lines::host_line(8, false, bytes_at(decode, p), dst, pen),
         HostKind::Unix(p) => lines::host_line(8, true, bytes_at(decode, p), dst, pen),
     }
@@ -38,14 +30,11 @@ pub fn put_host(h: Host, decode: &[u8], dst: &mut [u8], pen: Pen) -> Pen
 pub fn put_port(port: u16, dst: &mut [u8], pen: Pen) -> Pen
     ensures { sheet dst.new result ≡ drawn (sheet dst.old pen) (line 10 (number_value port)) }
 {
-    lines::number_line(10, port as u64, dst, pen)
+    lines::number_line(10, u64::from(port), dst, pen)
 }
 
 pub fn put_switch(key: usize, on: bool, dst: &mut [u8], pen: Pen) -> Pen
     ensures { sheet dst.new result ≡ drawn (sheet dst.old pen) (line key (switch_value on)) }
 {
-    if on {
-        return lines::number_line(key, 1, dst, pen);
-    }
-    lines::number_line(key, 0, dst, pen)
+    lines::number_line(key, u64::from(on), dst, pen)
 }

@@ -1,20 +1,25 @@
 -- The keys' lines in groups, as the code draws them, are the lines of what the record shows.
 -- Assumes nothing.
 use Prim.Native.Nat.{ℕ}
-use mathlib.Core.Path.{◌≡◌, sym, ap, ◌∙◌}
+use Rattle.std.specs.Prelude.{Option, Some, None}
+use Rattle.lists.specs.declared.Place.{Place}
+use mathlib.Core.Path.{◌≡◌, refl, sym, ap, ◌∙◌}
 use mathlib.Core.List.{List, [], ◌∷◌, map}
 use native.Mathlib.Omega.{arith}
 use lib.ListN.{take, drop}
-use Rattle.byte.specs.Byte.{pick}
 use Rattle.escape.specs.Escape.{text_value}
 use Rattle.line.specs.Line.{secret_value, word_value, number_value, address_value, line, lines, lines_from}
 use Rattle.draw.specs.Pen.{Sheet, drawn}
 use Rattle.line.proofs.Lines.{draw-one, draw-more, draw-last, draw-split}
 use Rattle.config.specs.declared.Config.{Config}
-use Rattle.config.specs.Values.{text_shown, hosts_shown, addresses_shown, ports_shown, seconds_shown, retries_shown, shown}
+use Rattle.config.specs.Values.{place_shown, text_shown, hosts_shown, addresses_shown, ports_shown, seconds_shown, retries_shown, shown}
 use Rattle.field.specs.Field.{mode_number, negotiation_number, target_number, binding_number, balance_number, optional, named_host, switch_value}
-use Rattle.field.proofs.Steps.{flag-shown}
 use Rattle.report_lines.specs.Values.{values}
+
+-- a password shows that it is set, and not what it is
+secret-shown : (b : List ℕ) (t : Option Place) → optional (λ x. secret_value) (text_shown b t) ≡ optional (λ x. secret_value) t
+secret-shown b (Some p) = refl
+secret-shown b None = refl
 
 -- a word by the number that the code tells
 pub word-drawn : (key : ℕ) (s t : Sheet) (m n : ℕ) → m ≡ n → t ≡ drawn s (line key (word_value key m)) → t ≡ drawn s (lines key (word_value key n ∷ []))
@@ -24,21 +29,21 @@ module _ (b : List ℕ) (c : Config) where
   -- keys 1 to 5
   pub texts-drawn : (s s₁ s₂ s₃ s₄ s₅ : Sheet)
       → s₁ ≡ drawn s (lines 1 (optional text_value (text_shown b c.user)))
-      → s₂ ≡ drawn s₁ (lines 2 (pick c.password.set (secret_value ∷ []) []))
+      → s₂ ≡ drawn s₁ (lines 2 (optional (λ x. secret_value) c.password))
       → s₃ ≡ drawn s₂ (lines 3 (optional text_value (text_shown b c.dbname)))
       → s₄ ≡ drawn s₃ (lines 4 (optional text_value (text_shown b c.options)))
       → s₅ ≡ drawn s₄ (lines 5 (optional text_value (text_shown b c.application_name)))
       → s₅ ≡ drawn s (lines_from 1 (take 5 (values (shown b c))))
   unfolding values shown
   texts-drawn s s₁ s₂ s₃ s₄ s₅ e₁ e₂ e₃ e₄ e₅ =
-      let hides = flag-shown {A = List ℕ} secret_value c.password.set _ in
+      let hides = secret-shown b c.password in
       draw-more 1 s s₁ s₅ _ _ e₁ (draw-more 2 s₁ s₂ s₅ _ _ (e₂ ∙ ap (λ (v : List (List (List ℕ))). drawn s₁ (lines 2 v)) (sym hides))
       (draw-more 3 s₂ s₃ s₅ _ _ e₃ (draw-more 4 s₃ s₄ s₅ _ _ e₄ (draw-last 5 s₄ s₅ _ e₅))))
 
   -- keys 6 to 10
   pub lists-drawn : (s s₁ s₂ s₃ s₄ s₅ : Sheet) (mode negotiation : ℕ)
-      → mode ≡ mode_number c.ssl_mode.word → s₁ ≡ drawn s (line 6 (word_value 6 mode))
-      → negotiation ≡ negotiation_number c.ssl_negotiation.word → s₂ ≡ drawn s₁ (line 7 (word_value 7 negotiation))
+      → mode ≡ mode_number c.ssl_mode → s₁ ≡ drawn s (line 6 (word_value 6 mode))
+      → negotiation ≡ negotiation_number c.ssl_negotiation → s₂ ≡ drawn s₁ (line 7 (word_value 7 negotiation))
       → s₃ ≡ drawn s₂ (lines 8 (map named_host (hosts_shown b c.host)))
       → s₄ ≡ drawn s₃ (lines 9 (map address_value (addresses_shown c.hostaddr)))
       → s₅ ≡ drawn s₄ (lines 10 (map number_value (ports_shown c.port)))
@@ -64,9 +69,9 @@ module _ (b : List ℕ) (c : Config) where
 
   -- keys 17 to 19
   pub words-drawn : (s s₁ s₂ s₃ : Sheet) (target binding balance : ℕ)
-      → target ≡ target_number c.target_session_attrs.word → s₁ ≡ drawn s (line 17 (word_value 17 target))
-      → binding ≡ binding_number c.channel_binding.word → s₂ ≡ drawn s₁ (line 18 (word_value 18 binding))
-      → balance ≡ balance_number c.load_balance_hosts.word → s₃ ≡ drawn s₂ (line 19 (word_value 19 balance))
+      → target ≡ target_number c.target_session_attrs → s₁ ≡ drawn s (line 17 (word_value 17 target))
+      → binding ≡ binding_number c.channel_binding → s₂ ≡ drawn s₁ (line 18 (word_value 18 binding))
+      → balance ≡ balance_number c.load_balance_hosts → s₃ ≡ drawn s₂ (line 19 (word_value 19 balance))
       → s₃ ≡ drawn s (lines_from 17 (drop 16 (values (shown b c))))
   unfolding values shown
   words-drawn s s₁ s₂ s₃ target binding balance t e₁ i e₂ a e₃ =

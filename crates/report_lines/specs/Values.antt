@@ -1,4 +1,4 @@
--- What each key's lines show, by document 01, of what a record shows and nothing else.
+-- What each key's lines show, of what a record shows and nothing else.
 -- Assumes nothing.
 use Rattle.std.specs.Prelude.{ℕ, List, [], ◌∷◌, map}
 use Rattle.escape.specs.Escape.{text_value}

@@ -1,25 +1,7 @@
-use native.Mathlib.Omega.{arith}
-use borrow.Author.Rules.{rules}
-use Rattle.line.proofs.Lines.{entry_first, entry_more, entries-counted, entries-ended}
+use Rattle.std.proofs.Common.{rules}
 use Rattle.line.specs.Line.{address_value}
 use Rattle.fields.proofs.put_addresses.Goals as goal
 
-pub loop-i-init : goal.loop-i-init
-loop-i-init c =
-    let a = c.args in
-    (search rules, entry_first address_value 9 a.a.list a.a.count _)
-
-pub returns-then-i-ge16 : goal.returns-then-i-ge16
-returns-then-i-ge16 c =
-    let a = c.args in
-    entries-ended address_value 9 a.a.list a.a.count _ _ c.loop-i.i c.loop-i.invariant.1 (omega (arith, c.loop-i.invariant.0, c.if-i-ge16.true))
-
-pub loop-i-preserved : goal.loop-i-preserved
-loop-i-preserved c =
-    let a = c.args in
-    (c.loop-i.invariant.0, entry_more address_value 9 a.a.list a.a.count _ _ _ c.loop-i.i _ c.loop-i.invariant.1 c.loop-i-test.true (omega (arith, c.loop-i.invariant.0, c.if-i-ge16.false)) c.address_line-p.ensures)
-
 pub returns : goal.returns
 returns c =
-    let a = c.args in
-    entries-counted address_value 9 a.a.list a.a.count _ _ c.loop-i.i c.loop-i.invariant.1 c.loop-i-test.false
+    rw c.used.ensures at (c.put_each.ensures 9 address_value (λ x d p q e called. search rules))
