@@ -15,8 +15,9 @@ use Rattle.config.specs.Values.{shown}
 use Rattle.config.specs.Sound.{sound}
 use Rattle.outcome.specs.declared.Answer.{Answer}
 use Rattle.outcome.specs.Outcome.{answer}
-use Rattle.report.specs.declared.Answer.{Answer as Reported}
-use Rattle.report.specs.declared.Answer.TheVariants.{Length, Short, Unsound}
+use Rattle.std.specs.Prelude.{min, Result, Ok, Err}
+use Rattle.report.specs.declared.ReportError.{ReportError}
+use Rattle.report.specs.declared.ReportError.TheVariants.{Short, Unsound}
 use Rattle.report.specs.Report.{report}
 use Rattle.report.specs.Answer.{reported, reported_into}
 use Rattle.entry.specs.Entry.{refused, told, used, report_left, kept, entry, entry_left}
@@ -51,6 +52,14 @@ used-fits room = by (leb room 999999) refl
     by true e = omega arith
     by false e = omega (arith, leb-false room 999999 e)
 
+pub used_is : (room : ℕ) → min room 999999 ≡ used room
+unfolding used
+used_is room = by (leb room 999999) refl
+  where
+    by : (t : Bool) → leb room 999999 ≡ t → min room 999999 ≡ pick t room 999999
+    by true e = omega (arith, leb-true room 999999 e)
+    by false e = omega (arith, leb-false room 999999 e)
+
 pub used-short : (room : ℕ) → used room ≤ 999999
 unfolding used
 used-short room = by (leb room 999999) refl
@@ -60,12 +69,12 @@ used-short room = by (leb room 999999) refl
     by false e = omega arith
 
 -- a report's length is within the bytes that are used
-pub told-within : (b : List ℕ) (c : Config) (room n : ℕ) → Length n ≡ reported b c room → n ≤ room
+pub told-within : (b : List ℕ) (c : Config) (room n : ℕ) → Ok n ≡ reported b c room → n ≤ room
 unfolding reported
 told-within b c room n e = by (sound (length b) c) (leb (length (report (shown b c))) room) refl e
   where
     by : (t u : Bool) → leb (length (report (shown b c))) room ≡ u
-        → Length n ≡ pick t (pick u (Length (length (report (shown b c)))) Short) Unsound → n ≤ room
+        → Ok n ≡ pick t (pick u (Ok (length (report (shown b c)))) (Err Short)) (Err Unsound) → n ≤ room
     by true true h f = let g : n ≡ length (report (shown b c)) = cc in omega (arith, leb-true (length (report (shown b c))) room h)
     by true false h f = let z : ◌≡◌ {A = ℕ} 0 1 = cc in omega arith
     by false u h f = let z : ◌≡◌ {A = ℕ} 0 1 = cc in omega arith
@@ -80,14 +89,14 @@ module _ (r : List ℕ) (n : ℕ) (e : n ≡ used (length r)) where
 
   -- the answer and the buffer, once a report is written there
   module _ (b : List ℕ) (c : Config) where
-    pub told-by : (q q' : Reported) → q' ≡ q → q ≡ reported b c (length (take n r)) → told q' ≡ told (reported b c (used (length r)))
+    pub told-by : (q q' : Result ℕ ReportError) → q' ≡ q → q ≡ reported b c (length (take n r)) → told q' ≡ told (reported b c (used (length r)))
     told-by q q' f g = ap told (f ∙ g ∙ ap (reported b c) (part-long ∙ e))
 
     pub left_by : (x : List ℕ) → x ≡ reported_into b c (take n r) → x ++ drop n r ≡ report_left b c r
     unfolding report_left
     left_by x f = rw (← e) (ap (λ (l : List ℕ). l ++ drop n r) f)
 
-    pub len_short : (q : Reported) (k : ℕ) → Length k ≡ q → q ≡ reported b c (length (take n r)) → k < 1000000
+    pub len_short : (q : Result ℕ ReportError) (k : ℕ) → Ok k ≡ q → q ≡ reported b c (length (take n r)) → k < 1000000
     len_short q k f g =
         let h : k ≤ n = told-within b c n k (f ∙ g ∙ ap (reported b c) part-long) in
         omega (arith, used-short (length r))

@@ -1,21 +1,21 @@
 -- The dock's entry: "text, decode buffer and report buffer in, one number out".
 -- Assumes nothing.
-use Rattle.std.specs.Prelude.{ℕ, ◌+◌, List, ◌++◌, eqb, leb, length, take, drop}
+use Rattle.std.specs.Prelude.{ℕ, ◌+◌, List, ◌++◌, eqb, leb, length, take, drop, Result, Ok, Err}
 use Rattle.byte.specs.Byte.{pick, part_of}
 use Rattle.config.specs.declared.Config.{Config}
 use Rattle.outcome.specs.Outcome.{answer, left}
-use Rattle.report.specs.declared.Answer.{Answer}
-use Rattle.report.specs.declared.Answer.TheVariants.{Length, Short, Unsound}
+use Rattle.report.specs.declared.ReportError.{ReportError}
+use Rattle.report.specs.declared.ReportError.TheVariants.{Short, Unsound}
 use Rattle.report.specs.Answer.{reported, reported_into}
 
 -- "the report's length, or 1,000,000 plus the refusal"
 abbrev pub refused : ℕ → ℕ
 refused number = 1000000 + number
 
-abbrev pub told : Answer → ℕ
-told (Length n) = n
-told Short = refused 16
-told Unsound = refused 17
+abbrev pub told : Result ℕ ReportError → ℕ
+told (Ok n) = n
+told (Err Short) = refused 16
+told (Err Unsound) = refused 17
 
 -- how much of a report buffer is used: never so much that a length could be taken for a refusal
 unfoldable pub used : ℕ → ℕ

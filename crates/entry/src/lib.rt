@@ -6,16 +6,17 @@ ghost use Rattle.report.specs.Answer.{reported};
 ghost use Rattle.entry.specs.Entry.{told, used, report_left};
 
 use config::Config;
-use report::Answer;
+use report::ReportError;
 
 // What a refusal's number is added to where the report's length might stand.
 pub const REFUSED: u32 = 1000000;
 
 // How much of a report buffer is used.
+#[tactic(auto, using(crate::proofs::Entry::used_is))]
 fn used_of(room: usize) -> usize
     ensures { result ≡ used room }
 {
-    if room <= 999999 { room } else { 999999 }
+    room.min(999999)
 }
 
 // The report of a record, or why there is none, as one number.
@@ -25,8 +26,8 @@ pub fn report_into(c: Config, kept: &[u8], dst: &mut [u8]) -> u32
 {
     let n = used_of(dst.len());
     match report::report(c, kept, &mut dst[..n]) {
-        Answer::Length(len) => len as u32,
-        Answer::Short => REFUSED + 16,
-        Answer::Unsound => REFUSED + 17,
+        Ok(len) => len as u32,
+        Err(ReportError::Short) => REFUSED + 16,
+        Err(ReportError::Unsound) => REFUSED + 17,
     }
 }

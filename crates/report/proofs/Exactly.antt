@@ -16,7 +16,8 @@ use Rattle.byte.proofs.Writing.{written-room, written-short, part-put, behind-pu
 use Rattle.config.specs.declared.Config.{Config}
 use Rattle.config.specs.Values.{shown}
 use Rattle.config.specs.Sound.{sound}
-use Rattle.report.specs.declared.Answer.{Answer}
+use Rattle.std.specs.Prelude.{Ok, Err}
+use Rattle.report.specs.declared.ReportError.TheVariants.{Short, Unsound}
 use Rattle.report.specs.Report.{report}
 use Rattle.report.specs.Answer.{number_of, reported, reported_into}
 
@@ -29,7 +30,7 @@ module _ (b : List ℕ) (c : Config) where
   unfolding reported
   unsound-exactly n = by (sound (length b) c) (leb (length whole) n)
     where
-      by : (s t : Bool) → (number_of (pick s (pick t (Answer.Length (length whole)) Answer.Short) Answer.Unsound) ≡ 17) ↔ (s ≡ false)
+      by : (s t : Bool) → (number_of (pick s (pick t (Ok (length whole)) (Err Short)) (Err Unsound)) ≡ 17) ↔ (s ≡ false)
       by true true = ((λ e. absurd (omega (arith, e))), (λ e. absurd (let z : ◌≡◌ {A = ℕ} 0 1 = cc in omega arith)))
       by true false = ((λ e. absurd (omega (arith, e))), (λ e. absurd (let z : ◌≡◌ {A = ℕ} 0 1 = cc in omega arith)))
       by false t = ((λ e. refl), (λ e. refl))
@@ -39,7 +40,7 @@ module _ (b : List ℕ) (c : Config) where
   unfolding reported
   short-exactly n s = rw s (by (leb (length whole) n) refl)
     where
-      by : (t : Bool) → leb (length whole) n ≡ t → (number_of (pick t (Answer.Length (length whole)) Answer.Short) ≡ 16) ↔ (n < length whole)
+      by : (t : Bool) → leb (length whole) n ≡ t → (number_of (pick t (Ok (length whole)) (Err Short)) ≡ 16) ↔ (n < length whole)
       by true e = ((λ h. absurd (omega (arith, h))), (λ h. absurd (omega (arith, leb-true (length whole) n e))))
       by false e = ((λ h. leb-false (length whole) n e), (λ h. refl))
 
@@ -55,7 +56,7 @@ module _ (b : List ℕ) (c : Config) where
 
     -- else the answer tells the length, the report stands in front, and the bytes behind it stay
     module _ (room : length whole ≤ length d) where
-      pub told-length : reported b c (length d) ≡ Answer.Length (length whole)
+      pub told-length : reported b c (length d) ≡ Ok (length whole)
       unfolding reported
       told-length = rw (s, le-leb _ _ room)
 

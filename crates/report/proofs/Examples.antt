@@ -1,11 +1,11 @@
--- Document 01's worked example, and lines of every kind, by computation.
+-- A worked example, and lines of every kind, by computation.
 -- Assumes nothing.
 use Prim.Native.Nat.{ℕ, ◌^◌, ◌-◌}
 use Prim.Native.String.{String}
 use mathlib.Core.Path.{◌≡◌, refl}
 use mathlib.Core.Bool.{true, false}
 use mathlib.Core.List.{List, [], ◌∷◌, ◌++◌}
-use mathlib.Core.Option.{some, none}
+use Rattle.std.specs.Prelude.{Some, None}
 use Rattle.byte.specs.Ascii.{bytes}
 use Rattle.byte.specs.Byte.{between}
 use Rattle.names.specs.Names.{key_name, word_name, words_of}
@@ -31,22 +31,22 @@ text (l ∷ ls) = bytes l ++ (0x0A ∷ []) ++ text ls
 pub worked : Values
 worked =
     record {
-      user = some (bytes "ann");
-      password = some (bytes "a b");
-      dbname = none;
-      options = none;
-      application_name = none;
+      user = Some (bytes "ann");
+      password = Some (bytes "a b");
+      dbname = None;
+      options = None;
+      application_name = None;
       ssl_mode = SslMode.Prefer;
       ssl_negotiation = SslNegotiation.Postgres;
       host = tcp (bytes "db1") ∷ unix (bytes "/run/pg") ∷ [];
       hostaddr = [];
       port = 6000 ∷ 5432 ∷ [];
-      connect_timeout = none;
-      tcp_user_timeout = none;
+      connect_timeout = None;
+      tcp_user_timeout = None;
       keepalives = true;
       keepalives_idle = 7200;
-      keepalives_interval = none;
-      keepalives_retries = none;
+      keepalives_interval = None;
+      keepalives_retries = None;
       target_session_attrs = TargetSessionAttrs.Any;
       channel_binding = ChannelBinding.Prefer;
       load_balance_hosts = LoadBalanceHosts.Disable;
@@ -74,22 +74,22 @@ worked-report = refl
 pub edges : Values
 edges =
     record {
-      user = some [];
-      password = some [];
-      dbname = some (0 ∷ 0x20 ∷ 0x21 ∷ 0x25 ∷ 0x7E ∷ 0x7F ∷ 0xFF ∷ []);
-      options = some (bytes "-c a=b");
-      application_name = some (0xC3 ∷ 0xA9 ∷ []);
+      user = Some [];
+      password = Some [];
+      dbname = Some (0 ∷ 0x20 ∷ 0x21 ∷ 0x25 ∷ 0x7E ∷ 0x7F ∷ 0xFF ∷ []);
+      options = Some (bytes "-c a=b");
+      application_name = Some (0xC3 ∷ 0xA9 ∷ []);
       ssl_mode = SslMode.Require;
       ssl_negotiation = SslNegotiation.Direct;
       host = tcp [] ∷ [];
       hostaddr = record { kind = Kind.V4 (2 ^ 32 - 1) } ∷ record { kind = Kind.V4 0 } ∷ record { kind = Kind.V6 0x20010db800000000 0x1 } ∷ [];
       port = 0 ∷ 65535 ∷ [];
-      connect_timeout = some 10;
-      tcp_user_timeout = some (2 ^ 63 - 1);
+      connect_timeout = Some 10;
+      tcp_user_timeout = Some (2 ^ 63 - 1);
       keepalives = false;
       keepalives_idle = 2 ^ 64 - 1;
-      keepalives_interval = some 0;
-      keepalives_retries = some (2 ^ 32 - 1);
+      keepalives_interval = Some 0;
+      keepalives_retries = Some (2 ^ 32 - 1);
       target_session_attrs = TargetSessionAttrs.ReadWrite;
       channel_binding = ChannelBinding.Require;
       load_balance_hosts = LoadBalanceHosts.Random;

@@ -4,7 +4,7 @@ use Prim.Native.Nat.{ℕ, ◌+◌, ◌*◌, ◌/◌, ◌≤◌}
 use mathlib.Core.Path.{◌≡◌, ap, ◌∙◌}
 use mathlib.Core.Bool.{Bool, true, false}
 use mathlib.Core.List.{List, [], ◌∷◌, map}
-use mathlib.Core.Option.{Option, some, none}
+use Rattle.std.specs.Prelude.{Option, Some, None}
 use native.Mathlib.Omega.{arith}
 use lib.Dec.{ltb}
 use lib.ListN.{length, take, drop, length-append, length-take}
@@ -31,7 +31,6 @@ use Rattle.config.specs.declared.SslNegotiation.{SslNegotiation}
 use Rattle.config.specs.declared.TargetSessionAttrs.{TargetSessionAttrs}
 use Rattle.config.specs.declared.ChannelBinding.{ChannelBinding}
 use Rattle.config.specs.declared.LoadBalanceHosts.{LoadBalanceHosts}
-use Rattle.config.specs.declared.Text.{Text}
 use Rattle.config.specs.declared.Config.{Config}
 use Rattle.config.specs.Sound.{counted}
 use Rattle.config.specs.Values.{place_shown, text_shown, host_shown, kind_shown, seconds_shown, retries_shown, shown}
@@ -48,15 +47,15 @@ module _ (key : ℕ) where
   one_size value most h = omega (arith, lines-size-cons key value [], lines-size-none key)
 
   pub secret-most : (t : Option (List ℕ)) → size (lines key (optional (λ (x : List ℕ). secret_value) t)) ≤ length (key_name key) + 3
-  secret-most none = omega (arith, lines-size-none key)
-  secret-most (some x) = omega (arith, one_size secret_value 1 (omega (arith, ap length secret-joined)))
+  secret-most None = omega (arith, lines-size-none key)
+  secret-most (Some x) = omega (arith, one_size secret_value 1 (omega (arith, ap length secret-joined)))
 
   twenty : (n : ℕ) → size (number_value n) ≤ 20
   twenty n = omega (arith, ap length (number-joined n), decimal-most n)
 
   pub seconds-most : (t : Option ℕ) → size (lines key (optional number_value t)) ≤ length (key_name key) + 22
-  seconds-most none = omega (arith, lines-size-none key)
-  seconds-most (some n) = omega (arith, one_size (number_value n) 20 (twenty n))
+  seconds-most None = omega (arith, lines-size-none key)
+  seconds-most (Some n) = omega (arith, one_size (number_value n) 20 (twenty n))
 
   pub idle-most : (n : ℕ) → size (lines key (number_value n ∷ [])) ≤ length (key_name key) + 22
   idle-most n = omega (arith, one_size (number_value n) 20 (twenty n))
@@ -129,13 +128,10 @@ place-most : (b : List ℕ) (p : Place) → length (place_shown b p) ≤ p.len
 unfolding place_shown
 place-most b p = omega (arith, length-take p.len (drop p.start b))
 
-text-room : (key : ℕ) (b : List ℕ) (t : Text) → size (lines key (optional text_value (text_shown b t))) ≤ length (key_name key) + 2 + 3 * text_threes t
+text-room : (key : ℕ) (b : List ℕ) (t : Option Place) → size (lines key (optional text_value (text_shown b t))) ≤ length (key_name key) + 2 + 3 * text_threes t
 unfolding text_threes
-text-room key b t = by t.set
-  where
-    by : (f : Bool) → size (lines key (optional text_value (pick f (some (place_shown b t.place)) none))) ≤ length (key_name key) + 2 + 3 * pick f t.place.len 0
-    by true = omega (arith, one_size key (text_value (place_shown b t.place)) (3 * length (place_shown b t.place)) (text-size (place_shown b t.place)), place-most b t.place)
-    by false = omega (arith, lines-size-none key)
+text-room key b (Some p) = omega (arith, one_size key (text_value (place_shown b p)) (3 * length (place_shown b p)) (text-size (place_shown b p)), place-most b p)
+text-room key b None = omega (arith, lines-size-none key)
 
 kind-room : (b : List ℕ) (k : HostKind) → size (named_host (kind_shown b k)) ≤ 5 + 3 * kind_len k
 unfolding kind_len
@@ -166,8 +162,8 @@ record-most b c =
       text-room 3 b c.dbname,
       text-room 4 b c.options,
       text-room 5 b c.application_name,
-      word-most 6 (mode_number c.ssl_mode.word) 7 (mode-most c.ssl_mode.word),
-      word-most 7 (negotiation_number c.ssl_negotiation.word) 8 (negotiation-most c.ssl_negotiation.word),
+      word-most 6 (mode_number c.ssl_mode) 7 (mode-most c.ssl_mode),
+      word-most 7 (negotiation_number c.ssl_negotiation) 8 (negotiation-most c.ssl_negotiation),
       hosts-room b (take c.host.count c.host.list),
       addresses-most (take c.hostaddr.count c.hostaddr.list),
       counted-most c.hostaddr.count c.hostaddr.list,
@@ -179,9 +175,9 @@ record-most b c =
       idle-most 14 c.keepalives_idle,
       seconds-most 15 (seconds_shown c.keepalives_interval),
       seconds-most 16 (retries_shown c.keepalives_retries),
-      word-most 17 (target_number c.target_session_attrs.word) 10 (target-most c.target_session_attrs.word),
-      word-most 18 (binding_number c.channel_binding.word) 7 (binding-most c.channel_binding.word),
-      word-most 19 (balance_number c.load_balance_hosts.word) 7 (balance-most c.load_balance_hosts.word),
+      word-most 17 (target_number c.target_session_attrs) 10 (target-most c.target_session_attrs),
+      word-most 18 (binding_number c.channel_binding) 7 (binding-most c.channel_binding),
+      word-most 19 (balance_number c.load_balance_hosts) 7 (balance-most c.load_balance_hosts),
     )
 
 pub surely : (b : List ℕ) (c : Config) (n : ℕ) → surely_fits n c ≡ true → length (report (shown b c)) ≤ n

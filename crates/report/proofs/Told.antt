@@ -19,7 +19,8 @@ use Rattle.config.specs.declared.Config.{Config}
 use Rattle.config.specs.Values.{shown}
 use Rattle.config.specs.Sound.{sound}
 use Rattle.room.specs.Room.{surely_fits}
-use Rattle.report.specs.declared.Answer.{Answer}
+use Rattle.std.specs.Prelude.{Ok, Err}
+use Rattle.report.specs.declared.ReportError.TheVariants.{Short, Unsound}
 use Rattle.report.specs.Report.{values, report}
 use Rattle.report.specs.Answer.{reported, reported_into}
 use Rattle.report.proofs.Most.{surely}
@@ -30,7 +31,7 @@ module _ (b : List ℕ) (c : Config) (d : List ℕ) where
 
   -- 17
   module _ (e : sound (length b) c ≡ false) where
-    pub told-unsound : Answer.Unsound ≡ reported b c (length d)
+    pub told-unsound : (Err Unsound) ≡ reported b c (length d)
     unfolding reported
     told-unsound = rw e
 
@@ -61,7 +62,7 @@ module _ (b : List ℕ) (c : Config) (d : List ℕ) where
   module _ (s : sound (length b) c ≡ true) (d' : List ℕ) (same : d' ≡ d) where
     -- 16
     module _ (e : leb (length (report (shown b c))) (length d) ≡ false) where
-      pub told-short : Answer.Short ≡ reported b c (length d)
+      pub told-short : (Err Short) ≡ reported b c (length d)
       unfolding reported
       told-short = rw (s, e)
 
@@ -78,9 +79,9 @@ module _ (b : List ℕ) (c : Config) (d : List ℕ) where
       unfolding report
       wrote = w ∙ rw same (inked-all d parts room)
 
-      pub told-length : Answer.Length q.at ≡ reported b c (length d)
+      pub told-length : Ok q.at ≡ reported b c (length d)
       unfolding reported
-      told-length = ap (λ (x : Sheet). Answer.Length x.pen.at) wrote ∙ sym (rw (s, e))
+      told-length = ap (λ (x : Sheet). Ok x.pen.at) wrote ∙ sym (rw (s, e))
 
       pub left-written : d'' ≡ reported_into b c d
       unfolding reported_into

@@ -1,4 +1,4 @@
--- The report, by document 01, on what a record shows and nothing else. What each key's lines show is crate report_lines's.
+-- The report, on what a record shows and nothing else. What each key's lines show is crate report_lines's.
 -- Assumes nothing.
 use Rattle.std.specs.Prelude.{ℕ, List}
 use Rattle.draw.specs.Parts.{joined}

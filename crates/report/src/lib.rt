@@ -9,10 +9,9 @@ ghost use Rattle.report.specs.Answer.{number_of, reported, reported_into};
 use config::Config;
 use draw::Pen;
 
-// The report's length; or why there is none.
-#[derive(Clone, Copy)]
-pub enum Answer {
-    Length(usize),
+// Why there is no report.
+#[derive(Clone, Copy, Debug, PartialEq, Eq)]
+pub enum ReportError {
     // The report buffer is too short.
     Short,
     // A list count above 16, or a set text or counted host outside the decode buffer.
@@ -20,13 +19,13 @@ pub enum Answer {
 }
 
 // The number that an answer hands back; 0 where there is a report.
-pub fn number_of(a: Answer) -> usize
-    ensures { result ≡ number_of a }
+pub fn number_of(answer: Result<usize, ReportError>) -> usize
+    ensures { result ≡ number_of answer }
 {
-    match a {
-        Answer::Length(_) => 0,
-        Answer::Short => 16,
-        Answer::Unsound => 17,
+    match answer {
+        Ok(_) => 0,
+        Err(ReportError::Short) => 16,
+        Err(ReportError::Unsound) => 17,
     }
 }
 
@@ -48,15 +47,15 @@ fn fits(c: Config, decode: &[u8], dst: &mut [u8]) -> bool
 }
 
 // Writes the report of the record into `dst` from its start, and answers its length. A record that is not sound (17) is refused before a buffer that is too short (16); both leave `dst` untouched.
-pub fn report(c: Config, decode: &[u8], dst: &mut [u8]) -> Answer
+pub fn report(c: Config, decode: &[u8], dst: &mut [u8]) -> Result<usize, ReportError>
     ensures value { result ≡ reported decode.now c (length dst.old) }
     ensures dst_after { dst.new ≡ reported_into decode.now c dst.old }
 {
     if !sound::is_sound(c, decode.len()) {
-        return Answer::Unsound;
+        return Err(ReportError::Unsound);
     }
     if !fits(c, decode, dst) {
-        return Answer::Short;
+        return Err(ReportError::Short);
     }
     let write = Pen {
         at: 0,
@@ -64,5 +63,5 @@ pub fn report(c: Config, decode: &[u8], dst: &mut [u8]) -> Answer
         ink: true,
     };
     let written = report_lines::put_all(c, decode, dst, write);
-    Answer::Length(written.at)
+    Ok(written.at)
 }

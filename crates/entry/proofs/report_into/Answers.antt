@@ -15,16 +15,16 @@ slice_bounds-report-end-2 c =
 
 pub overflow_cast-result : goal.overflow_cast-result
 overflow_cast-result c =
-    omega (arith, len_short c.args.dst.now _ c.used_of-n.ensures _ _ _ _ (sym c.in-Length.is) c.report.ensures.value)
+    omega (arith, len_short c.args.dst.now _ c.used_of-n.ensures _ _ _ _ (sym c.in-Ok.is) c.report.ensures.value)
 
-pub returns-in-Length : goal.returns-in-Length
-returns-in-Length c =
-    record { value = told-by c.args.dst.now _ c.used_of-n.ensures _ _ _ _ (sym c.in-Length.is) c.report.ensures.value; dst_after = left_by c.args.dst.now _ c.used_of-n.ensures _ _ _ c.report.ensures.dst_after }
+pub returns-in-Ok : goal.returns-in-Ok
+returns-in-Ok c =
+    record { value = told-by c.args.dst.now _ c.used_of-n.ensures _ _ _ _ (sym c.in-Ok.is) c.report.ensures.value; dst_after = left_by c.args.dst.now _ c.used_of-n.ensures _ _ _ c.report.ensures.dst_after }
 
-pub returns-in-Short : goal.returns-in-Short
-returns-in-Short c =
-    record { value = told-by c.args.dst.now _ c.used_of-n.ensures _ _ _ _ (sym c.in-Short.is) c.report.ensures.value; dst_after = left_by c.args.dst.now _ c.used_of-n.ensures _ _ _ c.report.ensures.dst_after }
+pub returns-in-Err-Short : goal.returns-in-Err-Short
+returns-in-Err-Short c =
+    record { value = told-by c.args.dst.now _ c.used_of-n.ensures _ _ _ _ (sym (rw c.in-Err-Short.field-0-is at c.in-Err-Short.is)) c.report.ensures.value; dst_after = left_by c.args.dst.now _ c.used_of-n.ensures _ _ _ c.report.ensures.dst_after }
 
-pub returns-in-Unsound : goal.returns-in-Unsound
-returns-in-Unsound c =
-    record { value = told-by c.args.dst.now _ c.used_of-n.ensures _ _ _ _ (sym c.in-Unsound.is) c.report.ensures.value; dst_after = left_by c.args.dst.now _ c.used_of-n.ensures _ _ _ c.report.ensures.dst_after }
+pub returns-in-Err-Unsound : goal.returns-in-Err-Unsound
+returns-in-Err-Unsound c =
+    record { value = told-by c.args.dst.now _ c.used_of-n.ensures _ _ _ _ (sym (rw c.in-Err-Unsound.field-0-is at c.in-Err-Unsound.is)) c.report.ensures.value; dst_after = left_by c.args.dst.now _ c.used_of-n.ensures _ _ _ c.report.ensures.dst_after }
