@@ -35,7 +35,7 @@ fn put_fixed(n: u64, base: u64, upper: bool, width: usize, dst: &mut [u8], at: u
     at + width
 }
 
-// How many digits `n` has in decimal.
+// How many digits `n` has in decimal. The loop goes by what is left of the number, and counts no index.
 pub fn decimal_len(n: u64) -> usize
     ensures { result ≡ length (decimal n) }
 {

@@ -8,6 +8,7 @@ use std::io::Read;
 
 // Reads until `buf` is full or the input ends, and answers how many bytes were put at its start. Where a read fails, its error is the
 // answer, and `buf` keeps its length; which bytes it holds then is not promised.
+// The place moves by what a read gives, and counts no index.
 pub fn read_full<R: Read>(from: &mut R, buf: &mut [u8]) -> io::Result<usize>
     ensures within { IfOk result (λ n. n ≤ length buf.new) }
     ensures prefix { IfOk result (λ n. n ≡ length (take n buf.new)) }

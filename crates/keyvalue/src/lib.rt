@@ -46,7 +46,7 @@ fn skip_plain(s: &[u8], at: usize) -> usize
     }
 }
 
-// A value that is not quoted: it runs to white space.
+// A value that is not quoted: it runs to white space. The cursor moves by a piece, a byte or a backslash with the byte behind it, and counts no index.
 fn simple_value(s: &[u8], at: usize) -> Raw
     ensures { result ≡ raw_at simple_len s.now at }
 {
@@ -80,7 +80,7 @@ fn simple_value(s: &[u8], at: usize) -> Raw
     }
 }
 
-// A value behind `'`: it runs to the next `'` that stands behind no backslash.
+// A value behind `'`: it runs to the next `'` that stands behind no backslash. The cursor moves by a piece, and counts no index.
 fn quoted_value(s: &[u8], at: usize) -> Raw
     ensures { result ≡ raw_at quoted_len s.now at }
 {

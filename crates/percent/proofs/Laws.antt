@@ -1,6 +1,6 @@
 -- Laws of percent decoding: those that a scan goes by, and what a caller may know of a decoded text.
 -- Assumes nothing.
-use mathlib.Core.Path.{◌≡◌, refl, ap, ◌∙◌}
+use mathlib.Core.Path.{◌≡◌, refl, sym, ap, ◌∙◌}
 use mathlib.Core.Bool.{Bool, true, false, ◌&&◌}
 use mathlib.Core.List.{List, [], ◌∷◌}
 use mathlib.Core.Logic.{◌↔◌}
@@ -13,7 +13,7 @@ use lib.Seq.{drop-cons, drop-drop, get_or-drop, take_all}
 use borrow.Author.Tests.{eq-eqb, ne_eqb, lt-ltb, le-ltb}
 use Rattle.byte.specs.Byte.{pick, between}
 use Rattle.byte.specs.Digit.{digit_of}
-use Rattle.byte.proofs.Laws.{and-false}
+use Rattle.byte.proofs.Laws.{past, and_right, and-false}
 use Rattle.percent.specs.declared.Piece.{Piece}
 use Rattle.percent.specs.Percent.{piece_of, piece_at, decoded_from, decoded, is_hex}
 
@@ -60,6 +60,16 @@ small s at = by (eqb (get_or s at 0) 37 && is_hex (get_or s (at + 1) 0) && is_he
     by : (t : Bool) (p q : Piece) → p.skip ≤ 2 → q.skip ≤ 2 → (pick t p q).skip ≤ 2
     by true p q a b = a
     by false p q a b = b
+
+-- and stands within the text
+pub fits-piece : (s : List ℕ) (i : ℕ) → i < length s → i + 1 + (piece_at s i).skip ≤ length s
+unfolding piece_at piece_of digit_of between
+fits-piece s i h = by (eqb (get_or s i 0) 37 && is_hex (get_or s (i + 1) 0) && is_hex (get_or s (i + 2) 0)) refl
+  where
+    by : (t : Bool) → eqb (get_or s i 0) 37 && is_hex (get_or s (i + 1) 0) && is_hex (get_or s (i + 2) 0) ≡ t
+        → i + 1 + (pick t (record { byte = digit_of (get_or s (i + 1) 0) * 16 + digit_of (get_or s (i + 2) 0); skip = 2 }) (itself (get_or s i 0))).skip ≤ length s
+    by true e = omega (arith, past is_hex refl s (i + 2) (and_right (eqb (get_or s i 0) 37 && is_hex (get_or s (i + 1) 0)) _ e))
+    by false e = omega arith
 
 -- a piece at a place of the text from a place on
 pub piece-drop : (s : List ℕ) (i : ℕ) → piece_at (drop i s) 0 ≡ piece_at s i
@@ -144,3 +154,11 @@ plain_step s i h n =
 -- the text from a place on, as a slice has it
 pub slice-from : (s : List ℕ) (i : ℕ) → take (length s - i) (drop i s) ≡ drop i s
 slice-from s i = take_all (length s - i) (drop i s) (omega (arith, length-drop i s))
+
+-- the piece in front and what is left behind it, as the code cuts it off
+module _ (s : List ℕ) (h : 0 < length s) (p : Piece) (is : p ≡ piece_at s 0) where
+  pub front-piece : decoded s ≡ p.byte ∷ decoded (take (length s - (1 + p.skip)) (drop (1 + p.skip) s))
+  front-piece = rw is (step s 0 h ∙ ap (λ (l : List ℕ). (piece_at s 0).byte ∷ decoded l) (sym (slice-from s (1 + (piece_at s 0).skip))))
+
+  pub front-fits : 1 + p.skip ≤ length s
+  front-fits = rw is (fits-piece s 0 h)

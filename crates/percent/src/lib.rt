@@ -3,6 +3,7 @@
 
 ghost use Rattle.std.specs.Prelude.{◌≡◌, length, get_or};
 ghost use Rattle.percent.specs.Percent.{piece_at, decoded};
+ghost use Rattle.percent.specs.Left.{decoded_left};
 
 // A decoded byte, and how many bytes of the text it takes besides the first.
 #[derive(Clone, Copy)]
@@ -45,16 +46,41 @@ pub fn first(s: &[u8]) -> u8
     p.byte
 }
 
+// The decoded bytes of what is left of a text.
+#[derive(Clone, Copy)]
+pub struct Pieces<'a> {
+    rest: &'a [u8],
+}
+
+impl Iterator for Pieces<'_> {
+    ghost use Rattle.std.specs.Iterator.{YieldsFirst, item_count};
+
+    type Item = u8;
+
+    ghost next_gives = { YieldsFirst decoded_left };
+
+    ghost remaining = { item_count decoded_left };
+
+    fn next(&mut self) -> Option<u8> {
+        if self.rest.len() == 0 {
+            return None;
+        }
+        let p = piece_at(self.rest, 0);
+        self.rest = &self.rest[1 + p.skip..];
+        Some(p.byte)
+    }
+}
+
+// A text decoded, a byte a turn.
+pub fn decoding(s: &[u8]) -> Pieces<'_>
+    ensures { decoded_left result ≡ decoded s.now }
+{
+    Pieces { rest: s }
+}
+
 // How many bytes the text has once decoded.
 pub fn decoded_len(s: &[u8]) -> usize
     ensures { result ≡ length (decoded s.now) }
 {
-    let mut count = 0;
-    let mut i = 0;
-    while i < s.len() {
-        let p = piece_at(s, i);
-        count += 1;
-        i = i + 1 + p.skip;
-    }
-    count
+    decoding(s).count()
 }

@@ -52,7 +52,8 @@ pub fn check(s: &[u8]) -> Checked
     check_from(s, plain)
 }
 
-// The same behind `from` plain bytes; pieces that are ASCII are only counted.
+// The same behind `from` plain bytes; pieces that are ASCII are only counted. By a cursor that moves by a piece, and counts no index: the first
+// piece that is not ASCII is judged with what follows it, and an iterator has passed it by then.
 fn check_from(s: &[u8], from: usize) -> Checked
     ensures { result ≡ checked_on from from s.now }
 {
@@ -80,12 +81,9 @@ fn check_bytes(s: &[u8]) -> Checked
 {
     let mut state = utf8_state::start();
     let mut len: usize = 0;
-    let mut i = 0;
-    while i < s.len() {
-        let p = percent::piece_at(s, i);
-        state = utf8_state::next(state, p.byte);
+    for b in percent::decoding(s) {
+        state = utf8_state::next(state, b);
         len += 1;
-        i = i + 1 + p.skip;
     }
     let utf8 = utf8_state::is_whole(state);
     Checked { len, utf8 }

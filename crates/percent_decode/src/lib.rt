@@ -25,33 +25,12 @@ pub fn decode(src: &[u8], dst: &mut [u8], at: usize) -> usize
     if !has_room(src, dst.len(), at) {
         return at;
     }
+    let plain = split::find(src, 0, b'%');
+    let start = byte::copy(&src[..plain], dst, at);
     let mut k = 0;
-    while k < src.len() {
-        let b = src[k];
-        if b == b'%' {
-            return decode_pieces(&src[k..], dst, at + k);
-        }
-        dst[at + k] = b;
+    for b in percent::decoding(&src[plain..]) {
+        dst[start + k] = b;
         k += 1;
     }
-    at + k
-}
-
-// The same, piece by piece.
-fn decode_pieces(src: &[u8], dst: &mut [u8], at: usize) -> usize
-    ensures value { result ≡ after dst.old at (decoded src.now) }
-    ensures dst_after { dst.new ≡ written dst.old at (decoded src.now) }
-{
-    if !has_room(src, dst.len(), at) {
-        return at;
-    }
-    let mut k = 0;
-    let mut i = 0;
-    while i < src.len() {
-        let p = percent::piece_at(src, i);
-        dst[at + k] = p.byte;
-        k += 1;
-        i = i + 1 + p.skip;
-    }
-    at + k
+    start + k
 }

@@ -52,7 +52,7 @@ fn space_len(s: &[u8], at: usize) -> usize
     0
 }
 
-// The place behind white space, one character a turn.
+// The place behind white space, one character a turn: the cursor moves by a character, and counts no index.
 fn skip_spaces(s: &[u8], at: usize) -> usize
     ensures { result ≡ end_of space_len s.now at }
 {

@@ -44,6 +44,7 @@ fn char_len(s: &[u8], at: usize) -> usize
     c.len
 }
 
+// Whether a text is well formed. The cursor moves by a character, and counts no index.
 pub fn valid(s: &[u8]) -> bool
     ensures { result ≡ well_formed s.now }
 {
