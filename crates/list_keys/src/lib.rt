@@ -94,6 +94,7 @@ pub fn append<T: Entry>(
 
 // The pieces between commas of a value that stands from `start` on, left to right: each is judged before room for it.
 // After a fault nothing is promised of the list: the text is refused, and nobody reads it.
+// The loop goes by places and not by the library's `split`: a host is kept by the place where it stands, which `split` doesn't give.
 pub fn append_all<T: Entry>(
     list: &mut [T; 16],
     count: &mut usize,
