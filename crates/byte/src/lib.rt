@@ -92,7 +92,8 @@ pub fn put(dst: &mut [u8], at: usize, b: u8) -> usize
     at + 1
 }
 
-// Copies `src` into `dst` from the place `at` on, and answers as `put` does.
+// Copies `src` into `dst` from the place `at` on, and answers as `put` does. Not by `copy_from_slice`: it asks a C host for memmove, and the archive
+// asks for no more of it than memcpy and memset.
 pub fn copy(src: &[u8], dst: &mut [u8], at: usize) -> usize
     ensures value { result ≡ after dst.old at src.now }
     ensures dst_after { dst.new ≡ written dst.old at src.now }
@@ -100,9 +101,10 @@ pub fn copy(src: &[u8], dst: &mut [u8], at: usize) -> usize
     if !has_room(dst.len(), at, src.len()) {
         return at;
     }
-    let end = at + src.len();
-    dst[at..end].copy_from_slice(src);
-    end
+    for (k, &b) in src.iter().enumerate() {
+        dst[at + k] = b;
+    }
+    at + src.len()
 }
 
 // Sets `n` bytes of `dst` to zero from the place `at` on, and answers as `put` does.
