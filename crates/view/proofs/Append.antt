@@ -14,7 +14,7 @@ use Rattle.byte.specs.Byte.{pick}
 use Rattle.lists.specs.declared.Fault.{Fault}
 use Rattle.lists.specs.Fault.{is_fine}
 use Rattle.lists.specs.Append.{Piece, good, bad, Slots, More, more, pushed, append, append_from, pieces_from}
-use Rattle.lists.proofs.Faults.{fine-none}
+use Rattle.std.specs.Prelude.{Ok, Err}
 use Rattle.view.specs.Given.{list_refused, entries_of}
 
 -- a list of sixteen places, of which at most sixteen are counted
@@ -40,49 +40,38 @@ module _ {A : Type 0} where
   onward full old ps m = pick (is_fine m.fault) (append_from full old m.slots ps) (more m.fault old)
 
   abbrev one : Fault → Slots A → A → Bool → More A
-  one full s a t = pick t (more Fault.NoFault (pushed s a)) (more full s)
+  one full s a t = pick t (more (Ok tt) (pushed s a)) (more (Err full) s)
 
   -- the pieces' entries stand behind the old ones, and there is still room
   abbrev pub Grown : Slots A → List (Piece A) → Slots A → Type 0
   Grown s ps now = (entries now ≡ entries s ++ entries_of ps) × Room now
 
-  module _ (full : Fault) (e : is_fine full ≡ false) where
+  module _ (full : Fault) where
     pub append-fault : (old s : Slots A) (ps : List (Piece A)) → (append_from full old s ps).fault ≡ list_refused full s.count ps
     unfolding append_from list_refused
     append-fault old s [] = refl
     append-fault old s (good a ∷ ps) = by (ltb s.count 16) (append-fault old (pushed s a) ps)
       where
         by : (t : Bool) → (append_from full old (pushed s a) ps).fault ≡ list_refused full (s.count + 1) ps
-            → (onward full old ps (one full s a t)).fault ≡ pick t (list_refused full (s.count + 1) ps) full
-        by true h = h
-        by false h = rw e
-    append-fault old s (bad f ∷ ps) = by (is_fine f) (append-fault old s ps)
-      where
-        by : (t : Bool) → (append_from full old s ps).fault ≡ list_refused full s.count ps
-            → (pick t (append_from full old s ps) (more f old)).fault ≡ pick t (list_refused full s.count ps) f
+            → (onward full old ps (one full s a t)).fault ≡ pick t (list_refused full (s.count + 1) ps) (Err full)
         by true h = h
         by false h = refl
+    append-fault old s (bad f ∷ ps) = refl
 
     pub append-entries : (old s : Slots A) (ps : List (Piece A)) → Room s → is_fine (list_refused full s.count ps) ≡ true → Grown s ps (append_from full old s ps).slots
     unfolding append_from list_refused entries_of
     append-entries old s [] h fine = (sym (append-nil (entries s)), h)
     append-entries old s (good a ∷ ps) h fine = by (ltb s.count 16) refl fine (append-entries old (pushed s a) ps)
       where
-        by : (t : Bool) → ltb s.count 16 ≡ t → is_fine (pick t (list_refused full (s.count + 1) ps) full) ≡ true
+        by : (t : Bool) → ltb s.count 16 ≡ t → is_fine (pick t (list_refused full (s.count + 1) ps) (Err full)) ≡ true
             → (Room (pushed s a) → is_fine (list_refused full (s.count + 1) ps) ≡ true → Grown (pushed s a) ps (append_from full old (pushed s a) ps).slots)
             → Grown s (good a ∷ ps) (onward full old ps (one full s a t)).slots
         by true l g rest =
             let c : s.count < 16 = ltb-true s.count 16 l in
             let r = rest (pushed_room s a h c) g in
             (r.0 ∙ rw (pushed-entries s a h c) (append_assoc (entries s) (a ∷ []) (entries_of ps)), r.1)
-        by false l g rest = let z : false ≡ true = sym e ∙ g in let n : ◌≡◌ {A = ℕ} 0 1 = cc in absurd (omega arith)
-    append-entries old s (bad f ∷ ps) h fine = by (is_fine f) refl fine (append-entries old s ps h)
-      where
-        by : (t : Bool) → is_fine f ≡ t → is_fine (pick t (list_refused full s.count ps) f) ≡ true
-            → (is_fine (list_refused full s.count ps) ≡ true → Grown s ps (append_from full old s ps).slots)
-            → Grown s ps (pick t (append_from full old s ps) (more f old)).slots
-        by true l g rest = rest g
-        by false l g rest = let z : false ≡ true = sym l ∙ g in let n : ◌≡◌ {A = ℕ} 0 1 = cc in absurd (omega arith)
+        by false l g rest = let z : false ≡ true = g in let n : ◌≡◌ {A = ℕ} 0 1 = cc in absurd (omega arith)
+    append-entries old s (bad f ∷ ps) h fine = let z : false ≡ true = fine in let n : ◌≡◌ {A = ℕ} 0 1 = cc in absurd (omega arith)
 
     -- one piece appended is a list of one piece appended
     pub append-one : (s : Slots A) (p : Piece A) → append full s p ≡ append_from full s s (p ∷ [])
@@ -91,12 +80,8 @@ module _ {A : Type 0} where
       where
         by : (t : Bool) → one full s a t ≡ onward full s [] (one full s a t)
         by true = refl
-        by false = rw e
-    append-one s (bad f) = by (is_fine f) refl
-      where
-        by : (t : Bool) → is_fine f ≡ t → more f s ≡ pick t (more Fault.NoFault s) (more f s)
-        by true l = rw (fine-none f l)
-        by false l = refl
+        by false = refl
+    append-one s (bad f) = refl
 
 -- pieces seen through a function on their entries
 abbrev pub seen_as : {A B : Type 0} → (A → B) → Piece A → Piece B
@@ -108,7 +93,7 @@ module _ {A B : Type 0} (f : A → B) where
   unfolding list_refused
   refused-seen full n [] = refl
   refused-seen full n (good a ∷ ps) = rw (refused-seen full (n + 1) ps)
-  refused-seen full n (bad x ∷ ps) = rw (refused-seen full n ps)
+  refused-seen full n (bad x ∷ ps) = refl
 
   pub entries-seen : (ps : List (Piece A)) → entries_of (map (seen_as f) ps) ≡ map f (entries_of ps)
   unfolding entries_of

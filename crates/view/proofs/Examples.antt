@@ -1,11 +1,11 @@
--- Settings given in order to what the default record shows, by computation: document 01's example, and refusals.
+-- Settings given in order to what the default record shows, by computation: an example, and refusals.
 -- Assumes nothing.
 use Prim.Native.Nat.{ℕ}
 use Prim.Native.String.{String}
 use mathlib.Core.Path.{◌≡◌, refl}
 use mathlib.Core.Bool.{true}
 use mathlib.Core.List.{List, [], ◌∷◌, map}
-use mathlib.Core.Option.{Option, some, none}
+use Rattle.std.specs.Prelude.{Option, Some, None}
 use Rattle.byte.specs.Ascii.{bytes}
 use Rattle.byte.specs.Byte.{between}
 use Rattle.byte.specs.Digit.{digit_of}
@@ -38,20 +38,20 @@ showing user password hosts ports timeout =
     record {
       user = user;
       password = password;
-      dbname = none;
-      options = none;
-      application_name = none;
+      dbname = None;
+      options = None;
+      application_name = None;
       ssl_mode = SslMode.Prefer;
       ssl_negotiation = SslNegotiation.Postgres;
       host = hosts;
       hostaddr = [];
       port = ports;
       connect_timeout = timeout;
-      tcp_user_timeout = none;
+      tcp_user_timeout = None;
       keepalives = true;
       keepalives_idle = 7200;
-      keepalives_interval = none;
-      keepalives_retries = none;
+      keepalives_interval = None;
+      keepalives_retries = None;
       target_session_attrs = TargetSessionAttrs.Any;
       channel_binding = ChannelBinding.Prefer;
       load_balance_hosts = LoadBalanceHosts.Disable;
@@ -63,14 +63,14 @@ accepted n w = record { number = 0; key = 0; count = n; values = w }
 -- settings, with what is told of them but the password's value
 abbrev table : List (List Setting × Told)
 table =
-    ([], accepted 0 (showing none none [] [] none))
+    ([], accepted 0 (showing None None [] [] None))
     ∷ (
       key "host" "db1,/run/pg" ∷ key "user" "ann" ∷ key "password" "a b" ∷ key "port" "6000," ∷ [],
-      accepted 4 (showing (some (bytes "ann")) (some []) (tcp (bytes "db1") ∷ unix (bytes "/run/pg") ∷ []) (6000 ∷ 5432 ∷ []) none),
+      accepted 4 (showing (Some (bytes "ann")) (Some []) (tcp (bytes "db1") ∷ unix (bytes "/run/pg") ∷ []) (6000 ∷ 5432 ∷ []) None),
     )
     ∷ (
       one_host (bytes "a,b") ∷ key "connect_timeout" "5" ∷ key "connect_timeout" "0" ∷ key "user" "" ∷ key "user" "x" ∷ [],
-      accepted 5 (showing (some (bytes "x")) none (tcp (bytes "a,b") ∷ []) [] (some 5)),
+      accepted 5 (showing (Some (bytes "x")) None (tcp (bytes "a,b") ∷ []) [] (Some 5)),
     )
     ∷ (key "user" "a" ∷ key "port" "1,65536" ∷ key "username" "a" ∷ [], tell_refusal 5 10 1)
     ∷ (key "sslmode" "Prefer" ∷ [], tell_refusal 5 6 0)

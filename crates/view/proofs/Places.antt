@@ -5,7 +5,7 @@ use Prim.Native.Nat.{ℕ, suc, ◌+◌, ◌-◌, ◌≤◌}
 use mathlib.Core.Path.{◌≡◌, refl, sym, ap, subst, ◌∙◌}
 use mathlib.Core.Bool.{Bool, true, false}
 use mathlib.Core.List.{List, [], ◌∷◌, ◌++◌, map, append-nil}
-use mathlib.Core.Option.{some, none}
+use Rattle.std.specs.Prelude.{Option, Some, None}
 use native.Mathlib.Omega.{arith}
 use borrow.Author.Tests.{leb-true, le-leb}
 use lib.Dec.{eqb, leb}
@@ -19,7 +19,6 @@ use Rattle.lists.specs.declared.HostKind.{HostKind}
 use Rattle.lists.specs.declared.Host.{Host}
 use Rattle.lists.specs.Append.{good, pieces_from}
 use Rattle.lists.specs.Lists.{host_of, host_piece}
-use Rattle.config.specs.declared.Text.{Text}
 use Rattle.config.specs.Values.{tcp, unix, place_shown, text_shown, kind_shown, host_shown}
 use Rattle.config.specs.Sound.{place_in, text_in, kind_in, all_in}
 use Rattle.apply.specs.Apply.{text}
@@ -46,13 +45,10 @@ module _ (n m : ℕ) (more : n ≤ m) where
   pub place-on : (p : Place) → place_in n p ≡ true → place_in m p ≡ true
   place-on p e = let h : p.start + p.len ≤ n = place-ends n p e in ends-place m p (omega arith)
 
-  pub text-on : (t : Text) → text_in n t ≡ true → text_in m t ≡ true
+  pub text-on : (t : Option Place) → text_in n t ≡ true → text_in m t ≡ true
   unfolding text_in
-  text-on t e = by t.set e
-    where
-      by : (q : Bool) → pick q (place_in n t.place) true ≡ true → pick q (place_in m t.place) true ≡ true
-      by true h = place-on t.place h
-      by false h = refl
+  text-on (Some p) e = place-on p e
+  text-on None e = refl
 
   kind-on : (k : HostKind) → kind_in n k ≡ true → kind_in m k ≡ true
   unfolding kind_in
@@ -80,14 +76,10 @@ module _ (b x : List ℕ) where
       let l : p.len ≤ length (drop p.start b) = rw length-drop (omega arith) in
       rw (drop-append-le p.start b x s, take-append-le p.len (drop p.start b) x l)
 
-  pub text-grows : (t : Text) → text_in (length b) t ≡ true → text_shown (b ++ x) t ≡ text_shown b t
+  pub text-grows : (t : Option Place) → text_in (length b) t ≡ true → text_shown (b ++ x) t ≡ text_shown b t
   unfolding text_in
-  text-grows t e = by t.set e
-    where
-      by : (q : Bool) → pick q (place_in (length b) t.place) true ≡ true
-          → pick q (some (place_shown (b ++ x) t.place)) none ≡ pick q (some (place_shown b t.place)) none
-      by true h = rw (place-grows t.place h)
-      by false h = refl
+  text-grows (Some p) e = rw (place-grows p e)
+  text-grows None e = refl
 
   kind_grows : (k : HostKind) → kind_in (length b) k ≡ true → kind_shown (b ++ x) k ≡ kind_shown b k
   unfolding kind_in
@@ -103,8 +95,8 @@ module _ (b x : List ℕ) where
   longer = rw length-append (omega arith)
 
   -- a text, replaced by v where that is packed behind, or as it was
-  module _ (v : List ℕ) (t : Text) (e : text_in (length b) t ≡ true) where
-    pub text-seen : (q : Bool) → (q ≡ true → x ≡ v) → text_shown (b ++ x) (pick q (text (length b) v) t) ≡ pick q (some v) (text_shown b t)
+  module _ (v : List ℕ) (t : Option Place) (e : text_in (length b) t ≡ true) where
+    pub text-seen : (q : Bool) → (q ≡ true → x ≡ v) → text_shown (b ++ x) (pick q (text (length b) v) t) ≡ pick q (Some v) (text_shown b t)
     unfolding place_shown
     text-seen true k = rw (k refl, drop-append_seam b v, take-length v)
     text-seen false k = text-grows t e

@@ -10,7 +10,7 @@ use lib.Dec.{eqb}
 use lib.ListN.{length, take, get_or, length-append, length-map}
 use Rattle.byte.specs.Byte.{pick}
 use Rattle.names.specs.Find.{word_number}
-use Rattle.number.specs.declared.Number.{Number}
+use Rattle.std.specs.Prelude.{Result, Ok, Err, ⊤}
 use Rattle.number.specs.Number.{unsigned_of}
 use Rattle.split.specs.Split.{split}
 use Rattle.address.specs.declared.Address.{Address}
@@ -19,25 +19,15 @@ use Rattle.lists.specs.declared.Host.{Host}
 use Rattle.lists.specs.declared.Hosts.{Hosts}
 use Rattle.lists.specs.declared.Addresses.{Addresses}
 use Rattle.lists.specs.declared.Ports.{Ports}
-use Rattle.lists.specs.declared.MoreHosts.{MoreHosts}
-use Rattle.lists.specs.declared.MoreAddresses.{MoreAddresses}
-use Rattle.lists.specs.declared.MorePorts.{MorePorts}
 use Rattle.lists.specs.Fault.{is_fine}
 use Rattle.lists.specs.Append.{Piece, good, Slots, append_all, pieces_from, listed}
-use Rattle.lists.specs.Lists.{port_slots, more_ports, address_slots, more_addresses, host_slots, more_hosts, port_piece, address_piece, host_piece, host_pushed, ports_after, addresses_after, hosts_after, host_after}
-use Rattle.config.specs.declared.Seconds.{Seconds}
-use Rattle.config.specs.declared.Retries.{Retries}
-use Rattle.config.specs.declared.SslModeWord.{SslModeWord}
-use Rattle.config.specs.declared.SslNegotiationWord.{SslNegotiationWord}
-use Rattle.config.specs.declared.TargetSessionAttrsWord.{TargetSessionAttrsWord}
-use Rattle.config.specs.declared.ChannelBindingWord.{ChannelBindingWord}
-use Rattle.config.specs.declared.LoadBalanceHostsWord.{LoadBalanceHostsWord}
+use Rattle.lists.specs.Lists.{MoreHosts, MoreAddresses, MorePorts, port_slots, more_ports, address_slots, more_addresses, host_slots, more_hosts, port_piece, address_piece, host_piece, host_pushed, ports_after, addresses_after, hosts_after, host_after}
 use Rattle.config.specs.declared.Config.{Config}
 use Rattle.config.specs.Config.{defaults}
-use Rattle.config.specs.Values.{HostValue, host_shown, hosts_shown, addresses_shown, ports_shown, seconds_shown, retries_shown, shown}
+use Rattle.config.specs.Values.{HostValue, host_shown, hosts_shown, addresses_shown, ports_shown, shown}
 use Rattle.config.specs.Sound.{counted, text_in, all_in, hosts_in, sound}
 use Rattle.apply.specs.Apply.{ssl_mode_of, ssl_negotiation_of, target_session_attrs_of, channel_binding_of, load_balance_hosts_of, word_fault, number_fault, seconds_in, time_after, retries_after, idle_after, keepalives_after, fault_of, after}
-use Rattle.view.specs.Given.{list_refused, entries_of, host_value, host_pieces, one_host_piece, address_pieces, port_pieces, time_given, retries_given, refused, given}
+use Rattle.view.specs.Given.{list_refused, entries_of, host_value, host_pieces, one_host_piece, address_pieces, port_pieces, refused, given}
 use Rattle.view.proofs.Append.{Room, entries, Grown, count_entries, append-fault, append-entries, append-one, pieces-anywhere, refused-seen, entries-seen}
 use Rattle.view.proofs.Places.{Laid, laid-whole, laid-pieces, text-on, text-grows, text-seen, text-in, hosts-grow, hosts-shown, hosts-in, all-on, all_append}
 
@@ -127,7 +117,7 @@ hosts-are h at v = refl
 
 host-is : (h : Hosts) (at : ℕ) (v : List ℕ) → host_after h at v ≡ more_hosts (append_all Fault.ManyHosts (host_slots h) (pieces_from host_piece at (v ∷ [])))
 unfolding host_after host_pushed pieces_from
-host-is h at v = ap more_hosts (append-one Fault.ManyHosts refl (host_slots h) (host_piece at v))
+host-is h at v = ap more_hosts (append-one Fault.ManyHosts (host_slots h) (host_piece at v))
 
 addresses-are : (a : Addresses) (v : List ℕ) → addresses_after a v ≡ more_addresses (append_all Fault.ManyHostaddrs (address_slots a) (address_pieces v))
 unfolding addresses_after listed
@@ -138,12 +128,12 @@ unfolding ports_after listed
 ports-are p v = ap (λ (ps : List (Piece ℕ)). more_ports (append_all Fault.ManyPorts (port_slots p) ps)) (pieces-anywhere port_piece 0 (split 44 v))
 
 -- pieces of any type appended: the fault by the entries shown, and the entries where there is none
-module _ {A : Type 0} (full : Fault) (e : is_fine full ≡ false) (s : Slots A) (room : Room s) (ps : List (Piece A)) where
+module _ {A : Type 0} (full : Fault) (s : Slots A) (room : Room s) (ps : List (Piece A)) where
   list-fault : (append_all full s ps).fault ≡ list_refused full (length (entries s)) ps
-  list-fault = append-fault full e s s ps ∙ ap (λ (n : ℕ). list_refused full n ps) (sym (count_entries s room))
+  list-fault = append-fault full s s ps ∙ ap (λ (n : ℕ). list_refused full n ps) (sym (count_entries s room))
 
   list-grown : is_fine (list_refused full (length (entries s)) ps) ≡ true → Grown s ps (append_all full s ps).slots
-  list-grown fine = append-entries full e s s ps room (ap (λ (n : ℕ). is_fine (list_refused full n ps)) (sym (count_entries s room)) ∙ fine)
+  list-grown fine = append-entries full s s ps room (ap (λ (n : ℕ). is_fine (list_refused full n ps)) (sym (count_entries s room)) ∙ fine)
 
 -- hosts that are laid behind b: what was counted is shown as before, what is new as its bytes say
 module _ (h : Hosts) (room : Room (host_slots h)) (b x : List ℕ) (ws : List (List ℕ)) (l : Laid (b ++ x) (length b) ws) where
@@ -160,7 +150,7 @@ module _ (h : Hosts) (room : Room (host_slots h)) (b x : List ℕ) (ws : List (L
       ∙ ap (λ (n : ℕ). list_refused Fault.ManyHosts n laid_hosts) (sym (length-map (take h.count h.list) (host_shown b)))
 
   hosts-fault : (append_all Fault.ManyHosts (host_slots h) placed_hosts).fault ≡ list_refused Fault.ManyHosts (length (hosts_shown b h)) laid_hosts
-  hosts-fault = list-fault Fault.ManyHosts refl (host_slots h) room placed_hosts ∙ same-fault
+  hosts-fault = list-fault Fault.ManyHosts (host_slots h) room placed_hosts ∙ same-fault
 
 -- a list of hosts, seen with x packed behind b
 record Hosted (b x : List ℕ) (l : List HostValue) (h : Hosts) : Type 0 where
@@ -187,7 +177,7 @@ module _ (b x : List ℕ) (h : Hosts) (room : Room (host_slots h)) (within : hos
   unfolding hosts_in
   hosted-more ws l fine =
       let ps : List (Piece Host) = pieces_from host_piece (length b) ws in
-      let g = list-grown Fault.ManyHosts refl (host_slots h) room ps (ap is_fine (same-fault h room b x ws l) ∙ fine) in
+      let g = list-grown Fault.ManyHosts (host_slots h) room ps (ap is_fine (same-fault h room b x ws l) ∙ fine) in
       record {
         values =
             ap (map (host_shown (b ++ x))) g.0
@@ -221,7 +211,7 @@ addressed : (v : List ℕ) (a : Addresses) → Room (address_slots a) → (q : B
     → (q ≡ true → is_fine (list_refused Fault.ManyHostaddrs (length (addresses_shown a)) (address_pieces v)) ≡ true)
     → Listed (pick q (addresses_shown a ++ entries_of (address_pieces v)) (addresses_shown a)) (address_slots (pick q (addresses_after a v).addresses a))
 addressed v a room true f =
-    let g = list-grown Fault.ManyHostaddrs refl (address_slots a) room (address_pieces v) (f refl) in
+    let g = list-grown Fault.ManyHostaddrs (address_slots a) room (address_pieces v) (f refl) in
     rw (addresses-are a v) (record { values = g.0; room = g.1 })
 addressed v a room false f = record { values = refl; room = room }
 
@@ -229,36 +219,19 @@ ported : (v : List ℕ) (p : Ports) → Room (port_slots p) → (q : Bool)
     → (q ≡ true → is_fine (list_refused Fault.ManyPorts (length (ports_shown p)) (port_pieces v)) ≡ true)
     → Listed (pick q (ports_shown p ++ entries_of (port_pieces v)) (ports_shown p)) (port_slots (pick q (ports_after p v).ports p))
 ported v p room true f =
-    let g = list-grown Fault.ManyPorts refl (port_slots p) room (port_pieces v) (f refl) in
+    let g = list-grown Fault.ManyPorts (port_slots p) room (port_pieces v) (f refl) in
     rw (ports-are p v) (record { values = g.0; room = g.1 })
 ported v p room false f = record { values = refl; room = room }
 
--- times and retries
-pick-through : {A B : Type 0} (f : A → B) (q : Bool) (a c : A) → f (pick q a c) ≡ pick q (f a) (f c)
-pick-through f true a c = refl
-pick-through f false a c = refl
-
-time-seen : (q : Bool) (t : Seconds) (n : Number) → seconds_shown (pick q (time_after t n) t) ≡ pick q (time_given (seconds_shown t) n) (seconds_shown t)
-time-seen true t (Number.Is n) = pick-through seconds_shown (eqb n 0) t (record { set = true; seconds = n })
-time-seen true t Number.Form = refl
-time-seen true t Number.Range = refl
-time-seen false t n = refl
-
-retries-seen : (q : Bool) (t : Retries) (n : Number) → retries_shown (pick q (retries_after t n) t) ≡ pick q (retries_given (retries_shown t) n) (retries_shown t)
-retries-seen true t (Number.Is n) = refl
-retries-seen true t Number.Form = refl
-retries-seen true t Number.Range = refl
-retries-seen false t n = refl
-
 -- the faults of each kind, by those of the four kinds that ask what stands in a list already
-abbrev tabled : List ℕ → Fault → Fault → Fault → Fault → List Fault
+abbrev tabled : List ℕ → Result ⊤ Fault → Result ⊤ Fault → Result ⊤ Fault → Result ⊤ Fault → List (Result ⊤ Fault)
 tabled v hosts addresses ports host =
-    Fault.UnknownKey ∷
-    Fault.NoFault ∷
-    Fault.NoFault ∷
-    Fault.NoFault ∷
-    Fault.NoFault ∷
-    Fault.NoFault ∷
+    Err Fault.UnknownKey ∷
+    Ok tt ∷
+    Ok tt ∷
+    Ok tt ∷
+    Ok tt ∷
+    Ok tt ∷
     word_fault (word_number 6 v) ∷
     word_fault (word_number 7 v) ∷
     hosts ∷
@@ -279,7 +252,7 @@ tabled v hosts addresses ports host =
 -- a setting is refused by what is shown
 pub seen-fault : (b v : List ℕ) (kind : ℕ) (c : Config) → In (length b) c → fault_of kind v (length b) c ≡ refused kind v (shown b c)
 unfolding fault_of refused shown
-seen-fault b v kind c h = λ i. get_or (tabled v (hosts i) (addresses i) (ports i) (host i)) kind Fault.UnknownKey
+seen-fault b v kind c h = λ i. get_or (tabled v (hosts i) (addresses i) (ports i) (host i)) kind (Err Fault.UnknownKey)
   where
     hosts : (hosts_after c.host (length b) v).fault ≡ list_refused Fault.ManyHosts (length (hosts_shown b c.host)) (host_pieces v)
     hosts = ap (λ (m : MoreHosts). m.fault) (hosts-are c.host (length b) v) ∙ hosts-fault c.host h.hosts b v (split 44 v) (laid-pieces b v)
@@ -287,10 +260,10 @@ seen-fault b v kind c h = λ i. get_or (tabled v (hosts i) (addresses i) (ports 
     addresses : (addresses_after c.hostaddr v).fault ≡ list_refused Fault.ManyHostaddrs (length (addresses_shown c.hostaddr)) (address_pieces v)
     addresses =
         ap (λ (m : MoreAddresses). m.fault) (addresses-are c.hostaddr v)
-        ∙ list-fault Fault.ManyHostaddrs refl (address_slots c.hostaddr) h.addresses (address_pieces v)
+        ∙ list-fault Fault.ManyHostaddrs (address_slots c.hostaddr) h.addresses (address_pieces v)
 
     ports : (ports_after c.port v).fault ≡ list_refused Fault.ManyPorts (length (ports_shown c.port)) (port_pieces v)
-    ports = ap (λ (m : MorePorts). m.fault) (ports-are c.port v) ∙ list-fault Fault.ManyPorts refl (port_slots c.port) h.ports (port_pieces v)
+    ports = ap (λ (m : MorePorts). m.fault) (ports-are c.port v) ∙ list-fault Fault.ManyPorts (port_slots c.port) h.ports (port_pieces v)
 
     host : (host_after c.host (length b) v).fault ≡ list_refused Fault.ManyHosts (length (hosts_shown b c.host)) (one_host_piece v)
     host = ap (λ (m : MoreHosts). m.fault) (host-is c.host (length b) v) ∙ hosts-fault c.host h.hosts b v (v ∷ []) (laid-whole b v)
@@ -329,21 +302,21 @@ module _ (b v x : List ℕ) (kind : ℕ) (c : Config) (h : In (length b) c) (p :
         dbname = text-seen b x v c.dbname h.dbname (eqb kind 3) (is-text 3 (omega arith) (omega arith)) i;
         options = text-seen b x v c.options h.options (eqb kind 4) (is-text 4 (omega arith) (omega arith)) i;
         application_name = text-seen b x v c.application_name h.application_name (eqb kind 5) (is-text 5 (omega arith) (omega arith)) i;
-        ssl_mode = pick-through (λ (w : SslModeWord). w.word) (eqb kind 6) (record { word = ssl_mode_of (word_number 6 v) }) c.ssl_mode i;
-        ssl_negotiation = pick-through (λ (w : SslNegotiationWord). w.word) (eqb kind 7) (record { word = ssl_negotiation_of (word_number 7 v) }) c.ssl_negotiation i;
+        ssl_mode = pick (eqb kind 6) (ssl_mode_of (word_number 6 v)) c.ssl_mode;
+        ssl_negotiation = pick (eqb kind 7) (ssl_negotiation_of (word_number 7 v)) c.ssl_negotiation;
         host = hosts-now.values i;
         hostaddr = addresses-now.values i;
         port = ports-now.values i;
-        connect_timeout = time-seen (eqb kind 11) c.connect_timeout (seconds_in v) i;
-        tcp_user_timeout = time-seen (eqb kind 12) c.tcp_user_timeout (seconds_in v) i;
+        connect_timeout = pick (eqb kind 11) (time_after c.connect_timeout (seconds_in v)) c.connect_timeout;
+        tcp_user_timeout = pick (eqb kind 12) (time_after c.tcp_user_timeout (seconds_in v)) c.tcp_user_timeout;
         keepalives = pick (eqb kind 13) (keepalives_after c.keepalives (unsigned_of (2 ^ 64 - 1) v)) c.keepalives;
         keepalives_idle = pick (eqb kind 14) (idle_after c.keepalives_idle (seconds_in v)) c.keepalives_idle;
-        keepalives_interval = time-seen (eqb kind 15) c.keepalives_interval (seconds_in v) i;
-        keepalives_retries = retries-seen (eqb kind 16) c.keepalives_retries (unsigned_of (2 ^ 32 - 1) v) i;
+        keepalives_interval = pick (eqb kind 15) (time_after c.keepalives_interval (seconds_in v)) c.keepalives_interval;
+        keepalives_retries = pick (eqb kind 16) (retries_after c.keepalives_retries (unsigned_of (2 ^ 32 - 1) v)) c.keepalives_retries;
         target_session_attrs =
-            pick-through (λ (w : TargetSessionAttrsWord). w.word) (eqb kind 17) (record { word = target_session_attrs_of (word_number 17 v) }) c.target_session_attrs i;
-        channel_binding = pick-through (λ (w : ChannelBindingWord). w.word) (eqb kind 18) (record { word = channel_binding_of (word_number 18 v) }) c.channel_binding i;
-        load_balance_hosts = pick-through (λ (w : LoadBalanceHostsWord). w.word) (eqb kind 19) (record { word = load_balance_hosts_of (word_number 19 v) }) c.load_balance_hosts i;
+            pick (eqb kind 17) (target_session_attrs_of (word_number 17 v)) c.target_session_attrs;
+        channel_binding = pick (eqb kind 18) (channel_binding_of (word_number 18 v)) c.channel_binding;
+        load_balance_hosts = pick (eqb kind 19) (load_balance_hosts_of (word_number 19 v)) c.load_balance_hosts;
       }
 
   -- and the record lies in what is packed then

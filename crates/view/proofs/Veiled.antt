@@ -4,7 +4,7 @@ use Prim.Native.Nat.{ℕ, ◌+◌}
 use mathlib.Core.Path.{◌≡◌, refl, sym, ap, ◌∙◌}
 use mathlib.Core.Bool.{Bool, true, false}
 use mathlib.Core.List.{List, [], ◌∷◌, map}
-use mathlib.Core.Option.{Option, some, none}
+use Rattle.std.specs.Prelude.{Option, Some, None}
 use borrow.Author.Tests.{eqb-true}
 use lib.Dec.{eqb}
 use Rattle.byte.specs.Byte.{pick}
@@ -15,8 +15,8 @@ use Rattle.view.specs.Given.{given, refused, Told, tell_refusal, told}
 use Rattle.view.specs.Hidden.{only_set, hidden, hidden_told, veil_value, veil}
 
 only-twice : (o : Option (List ℕ)) → only_set (only_set o) ≡ only_set o
-only-twice none = refl
-only-twice (some v) = refl
+only-twice None = refl
+only-twice (Some v) = refl
 
 veil-twice : (k : ℕ) (v : List ℕ) → veil_value k (veil_value k v) ≡ veil_value k v
 veil-twice k v = by (eqb k 2)

@@ -1,10 +1,9 @@
 -- One setting on what is shown: whether its value is refused, and what is shown then. No place stands here.
 -- Assumes nothing.
-use Rattle.std.specs.Prelude.{ℕ, ◌+◌, ◌-◌, ◌^◌, List, [], ◌∷◌, ◌++◌, map, eqb, ltb, length, get_or}
-use Rattle.std.proofs.Math.Option.{Option, some}
+use Rattle.std.specs.Prelude.{ℕ, ◌+◌, ◌-◌, ◌^◌, List, [], ◌∷◌, ◌++◌, map, eqb, ltb, length, get_or, Option, Some, Result, Ok, Err, ⊤}
 use Rattle.byte.specs.Byte.{pick}
 use Rattle.names.specs.Find.{word_number}
-use Rattle.number.specs.declared.Number.{Number}
+use Rattle.number.specs.declared.NumberError.{NumberError}
 use Rattle.number.specs.Number.{unsigned_of}
 use Rattle.split.specs.Split.{split}
 use Rattle.address.specs.declared.Address.{Address}
@@ -15,13 +14,13 @@ use Rattle.lists.specs.Lists.{port_piece, address_piece}
 use Rattle.config.specs.Config.{defaults}
 use Rattle.config.specs.Values.{Values, HostValue, tcp, unix, shown}
 use Rattle.setting.specs.Setting.{Setting, kind_of, value_of}
-use Rattle.apply.specs.Apply.{ssl_mode_of, ssl_negotiation_of, target_session_attrs_of, channel_binding_of, load_balance_hosts_of, word_fault, number_fault, seconds_in, idle_after, keepalives_after}
+use Rattle.apply.specs.Apply.{ssl_mode_of, ssl_negotiation_of, target_session_attrs_of, channel_binding_of, load_balance_hosts_of, word_fault, number_fault, seconds_in, time_after, retries_after, idle_after, keepalives_after}
 
 -- "These three split at commas, pieces left to right; a piece's form and range are judged before room for it": the first fault, where n entries stand already
-unfoldable pub list_refused : {A : Type 0} → Fault → ℕ → List (Piece A) → Fault
-list_refused full n [] = Fault.NoFault
-list_refused full n (good a ∷ ps) = pick (ltb n 16) (list_refused full (n + 1) ps) full
-list_refused full n (bad f ∷ ps) = pick (is_fine f) (list_refused full n ps) f
+unfoldable pub list_refused : {A : Type 0} → Fault → ℕ → List (Piece A) → Result ⊤ Fault
+list_refused full n [] = Ok tt
+list_refused full n (good a ∷ ps) = pick (ltb n 16) (list_refused full (n + 1) ps) (Err full)
+list_refused full n (bad f ∷ ps) = Err f
 
 -- "host, hostaddr and port append": the entries that the pieces stand for
 unfoldable pub entries_of : {A : Type 0} → List (Piece A) → List A
@@ -46,25 +45,21 @@ abbrev pub port_pieces : List ℕ → List (Piece ℕ)
 port_pieces v = map port_piece (split 44 v)
 
 -- "a timeout of zero or below is accepted and leaves the field as it stands"
-abbrev pub time_given : Option ℕ → Number → Option ℕ
-time_given old (Number.Is n) = pick (eqb n 0) old (some n)
-time_given old Number.Form = old
-time_given old Number.Range = old
+abbrev pub time_given : Option ℕ → Result ℕ NumberError → Option ℕ
+time_given old read = time_after old read
 
-abbrev pub retries_given : Option ℕ → Number → Option ℕ
-retries_given old (Number.Is n) = some n
-retries_given old Number.Form = old
-retries_given old Number.Range = old
+abbrev pub retries_given : Option ℕ → Result ℕ NumberError → Option ℕ
+retries_given old read = retries_after old read
 
 -- for each kind from 0 (an unknown key) to 20 (one host from a URI): what is wrong with the value
-abbrev pub refusals : List ℕ → Values → List Fault
+abbrev pub refusals : List ℕ → Values → List (Result ⊤ Fault)
 refusals v w =
-    Fault.UnknownKey ∷
-    Fault.NoFault ∷
-    Fault.NoFault ∷
-    Fault.NoFault ∷
-    Fault.NoFault ∷
-    Fault.NoFault ∷
+    Err Fault.UnknownKey ∷
+    Ok tt ∷
+    Ok tt ∷
+    Ok tt ∷
+    Ok tt ∷
+    Ok tt ∷
     word_fault (word_number 6 v) ∷
     word_fault (word_number 7 v) ∷
     list_refused Fault.ManyHosts (length w.host) (host_pieces v) ∷
@@ -82,18 +77,18 @@ refusals v w =
     list_refused Fault.ManyHosts (length w.host) (one_host_piece v) ∷
     []
 
-unfoldable pub refused : ℕ → List ℕ → Values → Fault
-refused kind v w = get_or (refusals v w) kind Fault.UnknownKey
+unfoldable pub refused : ℕ → List ℕ → Values → Result ⊤ Fault
+refused kind v w = get_or (refusals v w) kind (Err Fault.UnknownKey)
 
 -- what is shown after a setting that is not refused: "A repeated key replaces; host, hostaddr and port append."
 unfoldable pub given : ℕ → List ℕ → Values → Values
 given kind v w =
     record {
-      user = pick (eqb kind 1) (some v) w.user;
-      password = pick (eqb kind 2) (some v) w.password;
-      dbname = pick (eqb kind 3) (some v) w.dbname;
-      options = pick (eqb kind 4) (some v) w.options;
-      application_name = pick (eqb kind 5) (some v) w.application_name;
+      user = pick (eqb kind 1) (Some v) w.user;
+      password = pick (eqb kind 2) (Some v) w.password;
+      dbname = pick (eqb kind 3) (Some v) w.dbname;
+      options = pick (eqb kind 4) (Some v) w.options;
+      application_name = pick (eqb kind 5) (Some v) w.application_name;
       ssl_mode = pick (eqb kind 6) (ssl_mode_of (word_number 6 v)) w.ssl_mode;
       ssl_negotiation = pick (eqb kind 7) (ssl_negotiation_of (word_number 7 v)) w.ssl_negotiation;
       host = pick (eqb kind 8) (w.host ++ entries_of (host_pieces v)) (pick (eqb kind 20) (w.host ++ entries_of (one_host_piece v)) w.host);

@@ -1,7 +1,6 @@
 -- What is left of the values shown, and of settings, without a password's value.
 -- Assumes nothing.
-use Rattle.std.specs.Prelude.{ℕ, List, [], eqb}
-use Rattle.std.proofs.Math.Option.{Option, some, none}
+use Rattle.std.specs.Prelude.{ℕ, List, [], eqb, Option, Some, None}
 use Rattle.byte.specs.Byte.{pick}
 use Rattle.names.specs.Find.{key_number}
 use Rattle.config.specs.Values.{Values}
@@ -10,8 +9,8 @@ use Rattle.view.specs.Given.{Told}
 
 -- "the password only in being set or not"
 abbrev pub only_set : Option (List ℕ) → Option (List ℕ)
-only_set none = none
-only_set (some v) = some []
+only_set None = None
+only_set (Some v) = Some []
 
 -- "every setting shown but the password"
 unfoldable pub hidden : Values → Values
