@@ -3,7 +3,7 @@
 use Prim.Native.Nat.{ℕ, zero, suc, ◌+◌, ◌-◌, ◌^◌, ◌<◌}
 use mathlib.Core.Path.{◌≡◌, refl, sym, subst}
 use mathlib.Core.List.{List, [], ◌∷◌, ◌++◌, map}
-use mathlib.Core.Option.{Option, some}
+use Rattle.std.specs.Prelude.{Option, Some}
 use native.Mathlib.Omega.{arith}
 use lib.Dec.{eqb}
 use lib.IntN.{pos, neg_ℤ}
@@ -71,7 +71,7 @@ seconds-small v =
     (positive-small (unsigned_of (2 ^ 63 - 1) v) (unsigned_small (2 ^ 63 - 1) v (omega arith)))
 
 time-small : (old : Option ℕ) (x : Number) → Maybe Small old → SmallNumber x → Maybe Small (time_given old x)
-time-small old (Number.Is n) h k = picked (Maybe Small) (eqb n 0) old (some n) h k
+time-small old (Number.Is n) h k = picked (Maybe Small) (eqb n 0) old (Some n) h k
 time-small old Number.Form h k = h
 time-small old Number.Range h k = h
 
@@ -172,10 +172,10 @@ given-ranged : (k : ℕ) (v : List ℕ) (w : Values) → Bytes v → Ranged w �
 unfolding given
 given-ranged k v w b r =
     record {
-      user = picked (Maybe Bytes) (eqb k 1) (some v) w.user b r.user;
-      dbname = picked (Maybe Bytes) (eqb k 3) (some v) w.dbname b r.dbname;
-      options = picked (Maybe Bytes) (eqb k 4) (some v) w.options b r.options;
-      name = picked (Maybe Bytes) (eqb k 5) (some v) w.application_name b r.name;
+      user = picked (Maybe Bytes) (eqb k 1) (Some v) w.user b r.user;
+      dbname = picked (Maybe Bytes) (eqb k 3) (Some v) w.dbname b r.dbname;
+      options = picked (Maybe Bytes) (eqb k 4) (Some v) w.options b r.options;
+      name = picked (Maybe Bytes) (eqb k 5) (Some v) w.application_name b r.name;
       host =
           picked HostsBytes (eqb k 8) _ _ (hosts-append w.host _ r.host (host-entries (split 44 v) (split-bytes 44 v b)))
           (picked HostsBytes (eqb k 20) _ _ (hosts-append w.host _ r.host (one_entry v b)) r.host);

@@ -4,7 +4,7 @@ use Prim.Native.Nat.{ℕ, suc, ◌+◌, ◌≤◌}
 use mathlib.Core.Path.{◌≡◌, refl, sym, subst}
 use mathlib.Core.Bool.{Bool, true, false}
 use mathlib.Core.List.{List, [], ◌∷◌, ◌++◌, map}
-use mathlib.Core.Option.{some}
+use Rattle.std.specs.Prelude.{Some}
 use native.Mathlib.Omega.{arith}
 use native.Mathlib.Nat.{zero-add}
 use borrow.Author.Tests.{eqb-true}
@@ -67,23 +67,23 @@ module _ (v : List ℕ) (w : Values) where
 
   adds-user : Adds 1
   unfolding kept_bytes given keeps between
-  adds-user = let h : together (some v) w.password w.dbname w.options w.application_name w.host ≤ before + length v = omega arith in h
+  adds-user = let h : together (Some v) w.password w.dbname w.options w.application_name w.host ≤ before + length v = omega arith in h
 
   adds-password : Adds 2
   unfolding kept_bytes given keeps between
-  adds-password = let h : together w.user (some v) w.dbname w.options w.application_name w.host ≤ before + length v = omega arith in h
+  adds-password = let h : together w.user (Some v) w.dbname w.options w.application_name w.host ≤ before + length v = omega arith in h
 
   adds-dbname : Adds 3
   unfolding kept_bytes given keeps between
-  adds-dbname = let h : together w.user w.password (some v) w.options w.application_name w.host ≤ before + length v = omega arith in h
+  adds-dbname = let h : together w.user w.password (Some v) w.options w.application_name w.host ≤ before + length v = omega arith in h
 
   adds-options : Adds 4
   unfolding kept_bytes given keeps between
-  adds-options = let h : together w.user w.password w.dbname (some v) w.application_name w.host ≤ before + length v = omega arith in h
+  adds-options = let h : together w.user w.password w.dbname (Some v) w.application_name w.host ≤ before + length v = omega arith in h
 
   adds-name : Adds 5
   unfolding kept_bytes given keeps between
-  adds-name = let h : together w.user w.password w.dbname w.options (some v) w.host ≤ before + length v = omega arith in h
+  adds-name = let h : together w.user w.password w.dbname w.options (Some v) w.host ≤ before + length v = omega arith in h
 
   adds-hosts : Adds 8
   unfolding kept_bytes given keeps

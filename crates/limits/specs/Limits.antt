@@ -1,7 +1,6 @@
 -- What a text's report comes to in bytes, and what the entries for C hand back then.
 -- Assumes nothing.
-use Rattle.std.specs.Prelude.{ℕ, ◌+◌, ◌^◌, ◌<◌, ◌≤◌, ◌≡◌, true, false, List, ◌↔◌, length}
-use Rattle.std.proofs.Math.Option.{Option}
+use Rattle.std.specs.Prelude.{ℕ, ◌+◌, ◌^◌, ◌<◌, ◌≤◌, ◌≡◌, true, false, List, ◌↔◌, length, Option}
 use Rattle.byte.specs.Put.{written}
 use Rattle.config.specs.declared.Config.{Config}
 use Rattle.config.specs.Values.{HostValue, Values, shown}

@@ -12,7 +12,7 @@ use Rattle.line.specs.Line.{secret_value, word_value, number_value, address_valu
 use Rattle.draw.specs.Pen.{Sheet, drawn}
 use Rattle.line.proofs.Lines.{draw-one, draw-more, draw-last, draw-split}
 use Rattle.config.specs.declared.Config.{Config}
-use Rattle.config.specs.Values.{place_shown, text_shown, hosts_shown, addresses_shown, ports_shown, seconds_shown, retries_shown, shown}
+use Rattle.config.specs.Values.{text_shown, hosts_shown, addresses_shown, ports_shown, seconds_shown, retries_shown, shown}
 use Rattle.field.specs.Field.{mode_number, negotiation_number, target_number, binding_number, balance_number, optional, named_host, switch_value}
 use Rattle.report_lines.specs.Values.{values}
 

@@ -4,7 +4,7 @@ use Prim.Native.Nat.{ℕ}
 use mathlib.Core.Path.{◌≡◌, refl}
 use mathlib.Core.Bool.{true}
 use mathlib.Core.List.{List, [], ◌∷◌}
-use mathlib.Core.Option.{some}
+use Rattle.std.specs.Prelude.{Some}
 use Rattle.address.specs.declared.Kind.{Kind}
 use Rattle.address.specs.declared.Address.{Address}
 use Rattle.lists.specs.Lists.{port_kept, address_kept}
@@ -15,7 +15,7 @@ use Rattle.config.specs.Values.{shown}
 use Rattle.setters.specs.Setter.{address, number, switch, room, refusal, changed, set}
 
 -- "Zero through a setter is stored, unlike zero in a text"
-pub zero-timeout : (shown [] (set 11 (number 0) defaults).config).connect_timeout ≡ some 0
+pub zero-timeout : (shown [] (set 11 (number 0) defaults).config).connect_timeout ≡ Some 0
 unfolding set refusal room changed counted defaults shown
 zero-timeout = refl
 

@@ -4,7 +4,7 @@ use Prim.Native.Nat.{ℕ, ◌+◌, ◌*◌, ◌^◌, ◌<◌, ◌≤◌}
 use mathlib.Core.Path.{ap}
 use mathlib.Core.Bool.{true, false}
 use mathlib.Core.List.{List, [], ◌∷◌, map}
-use mathlib.Core.Option.{Option, some, none}
+use Rattle.std.specs.Prelude.{Option, Some, None}
 use native.Mathlib.Omega.{arith}
 use lib.ListN.{length}
 use Rattle.names.specs.Names.{key_name}
@@ -22,12 +22,12 @@ use Rattle.telling.specs.Bound.{text_bytes, name_bytes, host_bytes, shown_bytes,
 -- what may be unset
 module _ (key : ℕ) where
   text-most : (t : Option (List ℕ)) → size (lines key (optional text_value t)) ≤ length (key_name key) + 2 + 3 * text_bytes t
-  text-most none = omega (arith, lines-size-none key)
-  text-most (some x) = one_size key (text_value x) (3 * length x) (text-size x)
+  text-most None = omega (arith, lines-size-none key)
+  text-most (Some x) = one_size key (text_value x) (3 * length x) (text-size x)
 
   retries-most : (t : Option ℕ) → Maybe (λ (n : ℕ). n < 2 ^ 32) t → size (lines key (optional number_value t)) ≤ length (key_name key) + 12
-  retries-most none h = omega (arith, lines-size-none key)
-  retries-most (some n) h = omega (arith, one_size key (number_value n) 10 (omega (arith, ap length (number-joined n), digits-most 9 n (omega arith) (omega arith))))
+  retries-most None h = omega (arith, lines-size-none key)
+  retries-most (Some n) h = omega (arith, one_size key (number_value n) 10 (omega (arith, ap length (number-joined n), digits-most 9 n (omega arith) (omega arith))))
 
 -- the lists
 name-most : (h : HostValue) → size (named_host h) ≤ 5 + 3 * name_bytes h

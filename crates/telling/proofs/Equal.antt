@@ -4,7 +4,7 @@ use Prim.Native.Nat.{ℕ}
 use mathlib.Core.Path.{◌≡◌, refl, sym, ap, ◌∙◌}
 use mathlib.Core.List.{List}
 use mathlib.Core.Logic.{◌↔◌}
-use mathlib.Core.Option.{Option, some, none}
+use Rattle.std.specs.Prelude.{Option, Some, None}
 use Rattle.line.specs.Line.{secret_value}
 use Rattle.field.specs.Field.{optional}
 use Rattle.config.specs.Values.{Values}
@@ -16,8 +16,8 @@ use Rattle.telling.proofs.Told.{told}
 
 -- A report shows no more than that: the password's value is not in it.
 veil-shown : (t : Option (List ℕ)) → optional (λ (x : List ℕ). secret_value) (only_set t) ≡ optional (λ (x : List ℕ). secret_value) t
-veil-shown none = refl
-veil-shown (some x) = refl
+veil-shown None = refl
+veil-shown (Some x) = refl
 
 pub report-hidden : (v : Values) → report (hidden v) ≡ report v
 unfolding report values hidden

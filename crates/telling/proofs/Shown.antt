@@ -2,19 +2,17 @@
 -- Assumes nothing.
 use Prim.Native.Nat.{ℕ, zero, suc, ◌^◌, ◌<◌, ◌≤◌}
 use mathlib.Core.Path.{◌≡◌}
-use mathlib.Core.Bool.{Bool, true, false, ◌&&◌}
+use mathlib.Core.Bool.{true, ◌&&◌}
 use mathlib.Core.List.{List, [], ◌∷◌, map}
-use mathlib.Core.Option.{some, none}
+use Rattle.std.specs.Prelude.{Option, Some, None}
 use native.Mathlib.Omega.{arith}
 use lib.Dec.{leb}
 use lib.ListN.{length, take, drop, length-map, length-take}
 use borrow.Author.Tests.{leb-true}
-use Rattle.byte.specs.Byte.{pick}
 use Rattle.byte.proofs.Laws.{and_left, and_right}
 use Rattle.lists.specs.declared.Place.{Place}
 use Rattle.lists.specs.declared.HostKind.{HostKind}
 use Rattle.lists.specs.declared.Host.{Host}
-use Rattle.config.specs.declared.Text.{Text}
 use Rattle.config.specs.declared.Config.{Config}
 use Rattle.config.specs.Values.{place_shown, text_shown, kind_shown, host_shown, ports_shown, shown}
 use Rattle.config.specs.Sound.{counted}
@@ -37,17 +35,19 @@ widen : (s : List ℕ) → All (λ (n : ℕ). n < 2 ^ 16) s → All Small s
 widen [] h = tt
 widen (a ∷ s) h = (omega (arith, h.0), widen s h.1)
 
-pub flag : {A : Type 0} (p : A → Type 0) (t : Bool) (x : A) → p x → Maybe p (pick t (some x) none)
-flag p true x h = h
-flag p false x h = tt
+-- a count of 32 bits is one of 64
+retries-small : (t : Option ℕ) → Maybe (λ (n : ℕ). n < 2 ^ 32) t → Maybe Small t
+retries-small (Some n) h = omega (arith, h)
+retries-small None h = tt
 
 module _ (b : List ℕ) (bytes : Bytes b) where
   place-bytes : (p : Place) → Bytes (place_shown b p)
   unfolding place_shown
   place-bytes p = all_take _ p.len (drop p.start b) (all_drop _ p.start b bytes)
 
-  text-bytes : (t : Text) → Maybe Bytes (text_shown b t)
-  text-bytes t = flag Bytes t.set (place_shown b t.place) (place-bytes t.place)
+  text-bytes : (t : Option Place) → Maybe Bytes (text_shown b t)
+  text-bytes (Some p) = place-bytes p
+  text-bytes None = tt
 
   kind-bytes : (k : HostKind) → NamedBytes (kind_shown b k)
   kind-bytes (HostKind.Tcp p) = place-bytes p
@@ -68,11 +68,11 @@ module _ (b : List ℕ) (bytes : Bytes b) where
         host = hosts-bytes (take c.host.count c.host.list);
         hostaddr = t.hostaddr;
         port = widen (ports_shown c.port) t.port;
-        connect = flag Small c.connect_timeout.set c.connect_timeout.seconds t.connect;
-        user-time = flag Small c.tcp_user_timeout.set c.tcp_user_timeout.seconds t.user-time;
+        connect = t.connect;
+        user-time = t.user-time;
         idle = t.idle;
-        interval = flag Small c.keepalives_interval.set c.keepalives_interval.seconds t.interval;
-        retries = flag Small c.keepalives_retries.set c.keepalives_retries.retries (omega (arith, t.retries));
+        interval = t.interval;
+        retries = retries-small c.keepalives_retries t.retries;
       }
 
 few : {A : Type 0} (n : ℕ) (l : List A) → n ≤ 16 → length (take n l) ≤ 16
@@ -89,5 +89,5 @@ shown-sized b c k t =
       addresses = few c.hostaddr.count c.hostaddr.list addresses;
       ports = few c.port.count c.port.list ports;
       port = t.port;
-      retries = flag (λ (n : ℕ). n < 2 ^ 32) c.keepalives_retries.set c.keepalives_retries.retries t.retries;
+      retries = t.retries;
     }

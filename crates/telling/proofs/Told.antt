@@ -4,7 +4,7 @@ use Prim.Native.Nat.{ℕ, ◌+◌, ◌<◌}
 use mathlib.Core.Path.{◌≡◌, refl, ap, ◌∙◌}
 use mathlib.Core.Bool.{Bool, true, false}
 use mathlib.Core.List.{List, [], ◌∷◌, map}
-use mathlib.Core.Option.{Option, some, none}
+use Rattle.std.specs.Prelude.{Option, Some, None}
 use native.Mathlib.Omega.{arith}
 use lib.ListN.{get_or}
 use Rattle.byte.specs.Byte.{pick}
@@ -33,16 +33,16 @@ use Rattle.telling.proofs.Back.{text-back, host-back, number-back, word_back, ki
 
 -- no value has a line's end in it
 texts-end : (t : Option (List ℕ)) → FreeValues (optional text_value t)
-texts-end none = tt
-texts-end (some x) = (text-end x, tt)
+texts-end None = tt
+texts-end (Some x) = (text-end x, tt)
 
 secrets-end : (t : Option (List ℕ)) → FreeValues (optional (λ (x : List ℕ). secret_value) t)
-secrets-end none = tt
-secrets-end (some x) = (secret-end, tt)
+secrets-end None = tt
+secrets-end (Some x) = (secret-end, tt)
 
 numbers-end : (t : Option ℕ) → Maybe Small t → FreeValues (optional number_value t)
-numbers-end none h = tt
-numbers-end (some n) h = (number-end n h, tt)
+numbers-end None h = tt
+numbers-end (Some n) h = (number-end n h, tt)
 
 hosts-end : (hs : List HostValue) → FreeValues (map named_host hs)
 hosts-end [] = tt
@@ -86,12 +86,12 @@ balance-few LoadBalanceHosts.Random = omega arith
 -- what may be unset, and lists, read back
 module _ {A : Type 0} (f : A → List (List ℕ)) (g : List ℕ → A) where
   option_back : (p : A → Type 0) → ((x : A) → p x → g (joined (f x)) ≡ x) → (t : Option A) → Maybe p t → first_back g (map joined (optional f t)) ≡ t
-  option_back p back none h = refl
-  option_back p back (some x) h = ap some (back x h)
+  option_back p back None h = refl
+  option_back p back (Some x) h = ap Some (back x h)
 
 secret-back : (t : Option (List ℕ)) → first_back {A = List ℕ} (λ (x : List ℕ). []) (map joined (optional (λ (x : List ℕ). secret_value) t)) ≡ only_set t
-secret-back none = refl
-secret-back (some x) = refl
+secret-back None = refl
+secret-back (Some x) = refl
 
 hosts-back : (hs : List HostValue) → HostsBytes hs → map host_back (map joined (map named_host hs)) ≡ hs
 hosts-back [] b = refl

@@ -4,7 +4,7 @@ use Prim.Native.Nat.{ℕ, zero, suc, ◌+◌, ◌*◌, ◌-◌, ◌^◌}
 use mathlib.Core.Path.{◌≡◌, refl, ap, ◌∙◌}
 use mathlib.Core.Bool.{true}
 use mathlib.Core.List.{List, [], ◌∷◌}
-use mathlib.Core.Option.{some}
+use Rattle.std.specs.Prelude.{Some}
 use native.Mathlib.Omega.{arith}
 use lib.ListN.{length, replicate, drop, length-replicate, length-append}
 use Rattle.byte.specs.Byte.{between}
@@ -29,22 +29,22 @@ use Rattle.telling.specs.Bound.{host_bytes, shown_bytes, Sized}
 pub widest : List ℕ → Values
 widest x =
     record {
-      user = some x;
-      password = some [];
-      dbname = some [];
-      options = some [];
-      application_name = some [];
+      user = Some x;
+      password = Some [];
+      dbname = Some [];
+      options = Some [];
+      application_name = Some [];
       ssl_mode = SslMode.Require;
       ssl_negotiation = SslNegotiation.Postgres;
       host = replicate 16 (unix []);
       hostaddr = replicate 16 (record { kind = Kind.V6 0 0 });
       port = replicate 16 65535;
-      connect_timeout = some (2 ^ 64 - 1);
-      tcp_user_timeout = some (2 ^ 64 - 1);
+      connect_timeout = Some (2 ^ 64 - 1);
+      tcp_user_timeout = Some (2 ^ 64 - 1);
       keepalives = true;
       keepalives_idle = 2 ^ 64 - 1;
-      keepalives_interval = some (2 ^ 64 - 1);
-      keepalives_retries = some (2 ^ 32 - 1);
+      keepalives_interval = Some (2 ^ 64 - 1);
+      keepalives_retries = Some (2 ^ 32 - 1);
       target_session_attrs = TargetSessionAttrs.ReadWrite;
       channel_binding = ChannelBinding.Require;
       load_balance_hosts = LoadBalanceHosts.Disable;

@@ -1,13 +1,12 @@
 -- The values whose report has a bound: those that a record of document 01's sizes shows.
 -- Assumes nothing.
-use Rattle.std.specs.Prelude.{ℕ, ◌+◌, ◌^◌, ◌<◌, ◌≤◌, List, [], ◌∷◌, length}
-use Rattle.std.proofs.Math.Option.{Option, some, none}
+use Rattle.std.specs.Prelude.{ℕ, ◌+◌, ◌^◌, ◌<◌, ◌≤◌, List, [], ◌∷◌, length, Option, Some, None}
 use Rattle.config.specs.Values.{HostValue, tcp, unix, Values}
 
 -- how many bytes the texts have that a report shows: a password's are not among them
 abbrev pub text_bytes : Option (List ℕ) → ℕ
-text_bytes none = 0
-text_bytes (some x) = length x
+text_bytes None = 0
+text_bytes (Some x) = length x
 
 abbrev pub name_bytes : HostValue → ℕ
 name_bytes (tcp x) = length x
@@ -26,8 +25,8 @@ All p [] = Unit {0}
 All p (a ∷ s) = p a × All p s
 
 abbrev pub Maybe : {A : Type 0} → (A → Type 0) → Option A → Type 0
-Maybe p none = Unit {0}
-Maybe p (some x) = p x
+Maybe p None = Unit {0}
+Maybe p (Some x) = p x
 
 -- "Hosts, hostaddrs, ports: at most 16 each"; "port is 0 to 65,535", "retries 0 to 2^32 - 1"
 pub record Sized (v : Values) : Type 0 where

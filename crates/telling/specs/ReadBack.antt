@@ -1,7 +1,6 @@
 -- A report read back: its lines, the key and the value of each, and the values that the texts stand for.
 -- Assumes nothing.
-use Rattle.std.specs.Prelude.{ℕ, suc, zero, ◌+◌, ◌*◌, ◌^◌, Bool, List, [], ◌∷◌, map, eqb, length, get_or, take, drop}
-use Rattle.std.proofs.Math.Option.{Option, some, none}
+use Rattle.std.specs.Prelude.{ℕ, suc, zero, ◌+◌, ◌*◌, ◌^◌, Bool, List, [], ◌∷◌, map, eqb, length, get_or, take, drop, Option, Some, None}
 use Rattle.byte.specs.Byte.{pick}
 use Rattle.names.specs.Find.{key_number, word_number}
 use Rattle.number.specs.Digits.{value_in}
@@ -30,8 +29,8 @@ values_of key (row ∷ rows) = pick (eqb (key_in row) key) (value_of row ∷ val
 
 -- the first of them, where there is one
 abbrev pub first_back : {A : Type 0} → (List ℕ → A) → List (List ℕ) → Option A
-first_back f [] = none
-first_back f (x ∷ xs) = some (f x)
+first_back f [] = None
+first_back f (x ∷ xs) = Some (f x)
 
 -- the only one
 abbrev pub only_back : {A : Type 0} → (List ℕ → A) → List (List ℕ) → A
