@@ -48,43 +48,31 @@ fn closes_at(c: &[u8], at: usize) -> bool
     c[at] == b':'
 }
 
-// The host between brackets, or up to the first `:`.
-pub fn host_place(c: &[u8]) -> HostPlace
+// The host between brackets, or up to the first `:`; none where a bracket is not closed, or something else than `:` follows it.
+pub fn host_place(c: &[u8]) -> Option<HostPlace>
     ensures { result ≡ host_place c.now }
 {
     if byte::at(c, 0) != b'[' {
         let colon = split::find(c, 0, b':');
-        return HostPlace {
-            fault: false,
+        return Some(HostPlace {
             from: 0,
             to: colon,
             tail: colon,
-        };
+        });
     }
     let close = split::find(c, 1, b']');
     if c.len() <= close {
-        return HostPlace {
-            fault: true,
-            from: 0,
-            to: 0,
-            tail: 0,
-        };
+        return None;
     }
     let tail = close + 1;
     if closes_at(c, tail) {
-        return HostPlace {
-            fault: false,
+        return Some(HostPlace {
             from: 1,
             to: close,
             tail,
-        };
+        });
     }
-    HostPlace {
-        fault: true,
-        from: 0,
-        to: 0,
-        tail: 0,
-    }
+    None
 }
 
 // Whether a byte ends a host outside brackets.

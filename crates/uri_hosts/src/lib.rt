@@ -38,16 +38,17 @@ fn parse_placed(s: &[u8], at: usize) -> UrlStep
 {
     let end = uri_chunks::chunk_end(s, at);
     let c = byte::part(s, at, end);
-    let p = uri_chunks::host_place(c);
-    if p.fault {
-        return UrlStep::Ended(BRACKET);
+    match uri_chunks::host_place(c) {
+        None => UrlStep::Ended(BRACKET),
+        Some(p) => {
+            let judged = uri_values::host_param(byte::part(c, p.from, p.to));
+            let next = Url {
+                stage: Stage::Port,
+                at: at + p.tail,
+            };
+            uri_values::decode(ONE_HOST, at + p.from, at + p.to, judged, next)
+        }
     }
-    let judged = uri_values::host_param(byte::part(c, p.from, p.to));
-    let next = Url {
-        stage: Stage::Port,
-        at: at + p.tail,
-    };
-    uri_values::decode(ONE_HOST, at + p.from, at + p.to, judged, next)
 }
 
 // What is read behind a chunk.

@@ -1,7 +1,8 @@
 -- What a step's definition comes to on each way through the code, in the code's own places.
 -- Assumes nothing.
+use Rattle.std.proofs.Common.{Option, Some, None}
 use Prim.Native.Nat.{ℕ, ◌+◌, ◌≤◌, ◌<◌, ◌-◌}
-use mathlib.Core.Path.{◌≡◌, refl, ap, sym, ◌∙◌}
+use mathlib.Core.Path.{◌≡◌, refl, ap, sym, ◌∙◌, subst}
 use mathlib.Core.Bool.{Bool, true, false, ◌&&◌, ◌||◌}
 use mathlib.Core.List.{List}
 use native.Mathlib.Omega.{arith}
@@ -26,7 +27,7 @@ use Rattle.url_parser.specs.declared.Found.{Found}
 use Rattle.url_parser.specs.declared.UrlStep.TheVariants.{Given, Ended}
 use Rattle.url_parser.specs.declared.HostPlace.{HostPlace}
 use Rattle.url_parser.specs.Uri.{has, beyond, first_of, host_fits, closes, ends_hosts}
-use Rattle.url_parser.specs.Step.{url, found, give, skipped, host_checked, key_kind, value_checked, value_step, key_step, parameter_step, params_step, database_step, path_step, chunk_end, behind_chunk, fixed_port, port_step, place, faulty, closing, host_place, placed_step, chunk_step, host_step, password_step, user_end, credentials_step, stage_step, step_at, value_in}
+use Rattle.url_parser.specs.Step.{url, found, give, skipped, host_checked, key_kind, value_checked, value_step, key_step, parameter_step, params_step, database_step, path_step, chunk_end, behind_chunk, fixed_port, port_step, place, closing, host_place, placed_step, chunk_step, host_step, password_step, user_end, credentials_step, stage_step, step_at, value_in}
 use Rattle.url_parser.proofs.Places.{front-byte, part-front, part-shift, part-take, part-start, of-here, of-on, of_end}
 
 or-true : (t : Bool) → t || true ≡ true
@@ -39,60 +40,52 @@ or-false false = refl
 
 -- where a host stands in its chunk
 module _ (c : List ℕ) where
-  pub place-plain : (get_or c 0 0 ≡ 91 → ⊥) → (colon : ℕ) → colon ≡ 0 + first_at 58 (drop 0 c) → place 0 colon colon ≡ host_place c
+  pub place-plain : (get_or c 0 0 ≡ 91 → ⊥) → (colon : ℕ) → colon ≡ 0 + first_at 58 (drop 0 c) → Some (place 0 colon colon) ≡ host_place c
   unfolding host_place
   place-plain h colon e = rw (ne_eqb _ _ h, e ∙ zero-add _)
 
   module _ (h : get_or c 0 0 ≡ 91) (close : ℕ) (e : close ≡ closing c) where
-    pub place-open : length c ≤ close → faulty ≡ host_place c
+    pub place-open : length c ≤ close → None ≡ host_place c
     unfolding host_place
     place-open l =
         let z : length c ≤ closing c = omega (arith, e) in
         rw (eq-eqb _ _ h, le-ltb _ _ z)
 
-    pub place-closed : close < length c → closes (drop (close + 1) c) ≡ true → place 1 close (close + 1) ≡ host_place c
+    pub place-closed : close < length c → closes (drop (close + 1) c) ≡ true → Some (place 1 close (close + 1)) ≡ host_place c
     unfolding host_place
     place-closed l t =
         let z : closing c < length c = omega (arith, e) in
         rw (eq-eqb _ _ h, lt-ltb _ _ z, ← e, t)
 
-    pub place-followed : close < length c → closes (drop (close + 1) c) ≡ false → faulty ≡ host_place c
+    pub place-followed : close < length c → closes (drop (close + 1) c) ≡ false → None ≡ host_place c
     unfolding host_place
     place-followed l t =
         let z : closing c < length c = omega (arith, e) in
         rw (eq-eqb _ _ h, lt-ltb _ _ z, ← e, t)
 
   -- its places stand in order, within the chunk
-  pub place-from : (host_place c).from ≤ (host_place c).to
-  unfolding host_place
-  place-from = by (eqb (get_or c 0 0) 91) (ltb (closing c) (length c) && closes (drop (closing c + 1) c))
-    where
-      by : (a b : Bool) → (pick a (pick b (place 1 (closing c) (closing c + 1)) faulty) (place 0 (first_at 58 c) (first_at 58 c))).from
-          ≤ (pick a (pick b (place 1 (closing c) (closing c + 1)) faulty) (place 0 (first_at 58 c) (first_at 58 c))).to
-      by true true = omega arith
-      by true false = omega arith
-      by false b = omega arith
+  pub record Ordered (p : HostPlace) : Type 0 where
+    pub from : p.from ≤ p.to
+    pub to : p.to ≤ p.tail
+    pub tail : p.tail ≤ length c
 
-  pub place-to : (host_place c).to ≤ (host_place c).tail
-  unfolding host_place
-  place-to = by (eqb (get_or c 0 0) 91) (ltb (closing c) (length c) && closes (drop (closing c + 1) c))
-    where
-      by : (a b : Bool) → (pick a (pick b (place 1 (closing c) (closing c + 1)) faulty) (place 0 (first_at 58 c) (first_at 58 c))).to
-          ≤ (pick a (pick b (place 1 (closing c) (closing c + 1)) faulty) (place 0 (first_at 58 c) (first_at 58 c))).tail
-      by true true = omega arith
-      by true false = omega arith
-      by false b = omega arith
+  abbrev AnyOrdered : Option HostPlace → Type 0
+  AnyOrdered None = Unit {0}
+  AnyOrdered (Some p) = Ordered p
 
-  pub place-tail : (host_place c).tail ≤ length c
+  any-ordered : AnyOrdered (host_place c)
   unfolding host_place
-  place-tail = by (eqb (get_or c 0 0) 91) (ltb (closing c) (length c)) refl (closes (drop (closing c + 1) c))
+  any-ordered = by (eqb (get_or c 0 0) 91) (ltb (closing c) (length c)) refl (closes (drop (closing c + 1) c))
     where
       by : (a b : Bool) → ltb (closing c) (length c) ≡ b → (t : Bool)
-          → (pick a (pick (b && t) (place 1 (closing c) (closing c + 1)) faulty) (place 0 (first_at 58 c) (first_at 58 c))).tail ≤ length c
-      by true true e true = omega (arith, ltb-true (closing c) (length c) e)
-      by true true e false = omega arith
-      by true false e t = omega arith
-      by false b e t = first-most 58 c
+          → AnyOrdered (pick a (pick (b && t) (Some (place 1 (closing c) (closing c + 1))) None) (Some (place 0 (first_at 58 c) (first_at 58 c))))
+      by true true e true = record { from = omega arith; to = omega arith; tail = omega (arith, ltb-true (closing c) (length c) e) }
+      by true true e false = tt
+      by true false e t = tt
+      by false b e t = record { from = omega arith; to = omega arith; tail = first-most 58 c }
+
+  pub place-ordered : (p : HostPlace) → host_place c ≡ Some p → Ordered p
+  place-ordered p e = subst AnyOrdered e any-ordered
 
 module _ (at : ℕ) (s : List ℕ) where
   behind-one : drop 1 (drop at s) ≡ drop (at + 1) s
@@ -251,29 +244,32 @@ module _ (at : ℕ) (s : List ℕ) where
         chunk-is : c ≡ take (chunk_end (drop at s)) (drop at s)
         chunk-is = q ∙ ap (λ (n : ℕ). part_of at n s) e ∙ part-front at s (chunk_end (drop at s))
 
-        module _ (p : HostPlace) (h : p ≡ host_place c) where
-          chunk-placed : chunk_step at (drop at s) ≡ placed_step at c p
-          unfolding chunk_step
-          chunk-placed = rw (h, chunk-is)
+        chunk-placed : (r : Option HostPlace) → r ≡ host_place c → chunk_step at (drop at s) ≡ placed_step at c r
+        unfolding chunk_step
+        chunk-placed r h = rw (h, chunk-is)
+
+        pub chunk-fault : (r : Option HostPlace) → r ≡ host_place c → r ≡ None → Ended 10 ≡ chunk_step at (drop at s)
+        unfolding placed_step
+        chunk-fault r h f = sym (chunk-placed r h ∙ rw f)
+
+        module _ (r : Option HostPlace) (h : r ≡ host_place c) (p : HostPlace) (is : r ≡ Some p) where
+          in-order : Ordered c p
+          in-order = place-ordered c p (sym h ∙ is)
 
           -- its places fit where the text's do
           pub chunk-tail : at + p.tail ≤ at + (length s - at)
-          chunk-tail = omega (arith, place-tail c, ap (λ (x : HostPlace). x.tail) h, ap length q, part-most at end s)
+          chunk-tail = omega (arith, in-order.tail, ap length q, part-most at end s)
 
           pub chunk-to : p.to ≤ p.tail
-          chunk-to = omega (arith, place-to c, ap (λ (x : HostPlace). x.tail) h, ap (λ (x : HostPlace). x.to) h)
+          chunk-to = in-order.to
 
           pub chunk-from : p.from ≤ p.to
-          chunk-from = omega (arith, place-from c, ap (λ (x : HostPlace). x.from) h, ap (λ (x : HostPlace). x.to) h)
+          chunk-from = in-order.from
 
-          pub chunk-fault : p.fault ≡ true → Ended 10 ≡ chunk_step at (drop at s)
-          unfolding placed_step
-          chunk-fault f = sym (chunk-placed ∙ rw f)
-
-          pub chunk-host : p.fault ≡ false → (v : List ℕ) → v ≡ part_of p.from p.to c → (judged : Checked) → judged ≡ host_checked v
+          pub chunk-host : (v : List ℕ) → v ≡ part_of p.from p.to c → (judged : Checked) → judged ≡ host_checked v
               → give 20 (at + p.from) (at + p.to) judged (url Port (at + p.tail)) ≡ chunk_step at (drop at s)
           unfolding placed_step
-          chunk-host f v r judged j = sym (chunk-placed ∙ rw (f, j, r))
+          chunk-host v e judged j = sym (chunk-placed r h ∙ rw (is, j, e))
 
       -- its port
       module _ (next : Url) (n : next ≡ behind_chunk end (drop end s)) where

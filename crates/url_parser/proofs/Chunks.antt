@@ -1,5 +1,6 @@
 -- Laws of the host part: its first chunk and what follows it, where a chunk's host stands, and a chunk whose host was read.
 -- Assumes nothing.
+use Rattle.std.proofs.Common.{Option, Some, None}
 use Prim.Native.Nat.{ℕ, suc, ◌+◌, ◌≤◌, ◌-◌}
 use mathlib.Core.Path.{◌≡◌, refl, ap, sym, subst, ◌∙◌}
 use mathlib.Core.Bool.{Bool, true, false, ◌&&◌}
@@ -15,7 +16,8 @@ use Rattle.byte.proofs.Parts.{part-is}
 use Rattle.split.specs.Split.{first_at, split}
 use Rattle.setting.specs.Setting.{Reading, ends}
 use Rattle.url_parser.specs.Uri.{has, up_to, beyond, first_of, host, port, closes, bracketed, chunk, chunks, ends_hosts, host_part, behind_hosts, host_chunks, path}
-use Rattle.url_parser.specs.Step.{ends_chunk, chunk_end, place, faulty, closing, host_place, port_and_on}
+use Rattle.url_parser.specs.declared.HostPlace.{HostPlace}
+use Rattle.url_parser.specs.Step.{ends_chunk, chunk_end, place, closing, host_place, port_and_on}
 use Rattle.url_parser.proofs.Places.{drop-take, part-start, of-drop}
 
 -- the chunks behind the first, and what follows the host part
@@ -67,8 +69,12 @@ chunks-first t =
     by false = refl
 
 -- a chunk's host and what follows it, by their places
+abbrev pub placed_by : List ℕ → Reading → Option HostPlace → Reading
+placed_by c r None = ends 10
+placed_by c r (Some p) = host (part_of p.from p.to c) (port (drop p.tail c) r)
+
 abbrev pub placed_chunk : List ℕ → Reading → Reading
-placed_chunk c r = pick (host_place c).fault (ends 10) (host (part_of (host_place c).from (host_place c).to c) (port (drop (host_place c).tail c) r))
+placed_chunk c r = placed_by c r (host_place c)
 
 module _ (a : ℕ) (d : List ℕ) where
   close-within : ltb (closing (a ∷ d)) (length (a ∷ d)) ≡ has 93 d
@@ -85,9 +91,7 @@ module _ (a : ℕ) (d : List ℕ) where
   chunk-bracketed e r = rw (e, close-within, close-behind) (by (has 93 d && closes (beyond 93 d)))
     where
       by : (b : Bool) → pick b (host (up_to 93 d) (port (beyond 93 d) r)) (ends 10)
-          ≡ pick (pick b (place 1 (closing (a ∷ d)) (closing (a ∷ d) + 1)) faulty).fault (ends 10)
-          (host (part_of (pick b (place 1 (closing (a ∷ d)) (closing (a ∷ d) + 1)) faulty).from (pick b (place 1 (closing (a ∷ d)) (closing (a ∷ d) + 1)) faulty).to (a ∷ d))
-          (port (drop (pick b (place 1 (closing (a ∷ d)) (closing (a ∷ d) + 1)) faulty).tail (a ∷ d)) r))
+          ≡ placed_by (a ∷ d) r (pick b (Some (place 1 (closing (a ∷ d)) (closing (a ∷ d) + 1))) None)
       by true = rw (close-part, close-behind)
       by false = refl
 

@@ -1,5 +1,6 @@
 -- Laws of a host that is plain: it ends where a scan finds its end, and is judged by having been found.
 -- Assumes nothing.
+use Rattle.std.proofs.Common.{Option, Some, None}
 use Prim.Native.Nat.{ℕ, zero, suc, ◌+◌, ◌-◌, ◌≤◌, ◌<◌}
 use mathlib.Core.Path.{◌≡◌, refl, ap, sym, ◌∙◌}
 use mathlib.Core.Bool.{Bool, true, false, ◌||◌}
@@ -142,7 +143,7 @@ module _ (at : ℕ) (s : List ℕ) (to : ℕ) (p : to ≡ at + first_of ends_pla
   host-judged : record { len = to - at; utf8 = true } ≡ host_checked (part_of 0 (to - at) c)
   host-judged = judged ∙ host-utf8 (take (to - at) t) (sym (ap (λ (x : Checked). x.utf8) judged)) ∙ ap host_checked (sym the-host)
 
-  placed : host_place c ≡ place 0 (to - at) (to - at)
+  placed : host_place c ≡ Some (place 0 (to - at) (to - at))
   placed = sym (place-plain c (front-not (chunk_end t) t (λ (z : get_or t 0 0 ≡ 91). h (sym (front-byte at s) ∙ z))) (to - at) (sym (zero-add _ ∙ ends_there)))
 
   pub chunk-plain : Given (found 20 at to (to - at) (url Port to)) ≡ chunk_step at (drop at s)

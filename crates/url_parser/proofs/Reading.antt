@@ -1,5 +1,6 @@
 -- A step and the reading say the same: what a reader's loop cites. A step gives the reading's next setting and leaves the rest of the reading, or tells its end.
 -- Assumes nothing.
+use Rattle.std.proofs.Common.{Option, Some, None}
 use Prim.Native.Nat.{ℕ, zero, suc, ◌+◌, ◌*◌, ◌≤◌, ◌<◌, ◌-◌}
 use mathlib.Core.Path.{◌≡◌, refl, ap, sym, subst, ◌∙◌}
 use mathlib.Core.Bool.{Bool, true, false}
@@ -33,8 +34,8 @@ use Rattle.url_parser.specs.Uri.{has, up_to, beyond, first_of, text, host_fits, 
 use Rattle.url_parser.specs.Step.{url, found, give, skipped, host_checked, param_kind, key_kind, value_step, key_step, parameter_step, params_step, database_step, path_step, ends_chunk, chunk_end, behind_chunk, fixed_port, port_step, host_place, placed_step, chunk_step, host_step, password_step, user_end, credentials_step, stage_step, step_at, value_in, port_and_on, stage_reading, reading_from}
 use Rattle.url_parser.proofs.Places.{front-byte, part-front, part-shift, part-take, drop-take, drop-skipped, skip-from, skip-within, of-most, first-drop}
 use Rattle.uri_keys.proofs.Keys.{key-most, kind-most, setting-most, user-one, password-two, dbname-three, port-ten}
-use Rattle.url_parser.proofs.Branches.{place-from, place-to, place-tail}
-use Rattle.url_parser.proofs.Chunks.{behind_one, chunks-first, chunk-placed, port-rest}
+use Rattle.url_parser.proofs.Branches.{Ordered, place-ordered}
+use Rattle.url_parser.proofs.Chunks.{behind_one, placed_by, chunks-first, chunk-placed, port-rest}
 use Rattle.url_parser.proofs.Parameters.{param_len, parameters-none, parameters-first}
 
 -- how many settings may still come: two for each byte that is left, and what the stage has begun
@@ -367,35 +368,34 @@ module _ (s : List ℕ) where
     abbrev piece : List ℕ
     piece = take end (drop at s)
 
-    abbrev spot : HostPlace
-    spot = host_place piece
+    module _ (spot : HostPlace) (is : host_place piece ≡ Some spot) where
+      in-order : Ordered piece spot
+      in-order = place-ordered piece spot is
 
-    tail-end : spot.tail ≤ end
-    tail-end = omega (arith, place-tail piece, length-take end (drop at s))
+      tail-end : spot.tail ≤ end
+      tail-end = omega (arith, in-order.tail, length-take end (drop at s))
 
-    host-part : part_of (at + spot.from) (at + spot.to) s ≡ part_of spot.from spot.to piece
-    host-part = part-shift at s spot.from spot.to ∙ sym (part-take spot.from spot.to end (drop at s) (omega (arith, tail-end, place-to piece)))
+      host-part : part_of (at + spot.from) (at + spot.to) s ≡ part_of spot.from spot.to piece
+      host-part = part-shift at s spot.from spot.to ∙ sym (part-take spot.from spot.to end (drop at s) (omega (arith, tail-end, in-order.to)))
 
-    tail-reads : port (drop spot.tail piece) (behind_one (drop at s)) ≡ reading_from s (url Port (at + spot.tail))
-    unfolding reading_from stage_reading
-    tail-reads = sym (port-rest spot.tail (drop at s) tail-end) ∙ ap port_and_on (drop-drop spot.tail at s)
+      tail-reads : port (drop spot.tail piece) (behind_one (drop at s)) ≡ reading_from s (url Port (at + spot.tail))
+      unfolding reading_from stage_reading
+      tail-reads = sym (port-rest spot.tail (drop at s) tail-end) ∙ ap port_and_on (drop-drop spot.tail at s)
 
     pub chunk-says : Says s at (2 * (length s - at) + 2) (host_chunks (drop at s)) (chunk_step at (drop at s))
     unfolding chunk_step placed_step host left extra kind_of value_of
     chunk-says =
-        further s at (2 * (length s - at) + 2) _ at (2 * (length s - at) + 2) _ (placed_step at piece spot) (omega arith) (omega arith)
-        (chunks-first (drop at s) ∙ chunk-placed piece (behind_one (drop at s))) (by spot.fault)
+        further s at (2 * (length s - at) + 2) _ at (2 * (length s - at) + 2) _ (placed_step at piece (host_place piece)) (omega arith) (omega arith)
+        (chunks-first (drop at s) ∙ chunk-placed piece (behind_one (drop at s))) (by (host_place piece) refl)
       where
-        v : List ℕ
-        v = part_of spot.from spot.to piece
-
-        by : (b : Bool) → Says s at (2 * (length s - at) + 2) (pick b (ends 10) (host v (port (drop spot.tail piece) (behind_one (drop at s)))))
-            (pick b (Ended 10) (give 20 (at + spot.from) (at + spot.to) (host_checked v) (url Port (at + spot.tail))))
-        by true = refl
-        by false =
-            give-says s at _ _ 20 (at + spot.from) (at + spot.to) (url Port (at + spot.tail)) v host-part (host_fits (decoded v)) (one_host (decoded v))
-            refl refl (omega arith) (omega (arith, place-from piece)) (omega (arith, place-to piece)) (omega (arith, tail-end, end-within)) (omega arith)
-            (ap (λ (r : Reading). pick (host_fits (decoded v)) (follows (one_host (decoded v)) r) (ends 12)) tail-reads)
+        by : (p : Option HostPlace) → host_place piece ≡ p
+            → Says s at (2 * (length s - at) + 2) (placed_by piece (behind_one (drop at s)) p) (placed_step at piece p)
+        by None e = refl
+        by (Some spot) e =
+            let v : List ℕ = part_of spot.from spot.to piece in
+            give-says s at _ _ 20 (at + spot.from) (at + spot.to) (url Port (at + spot.tail)) v (host-part spot e) (host_fits (decoded v)) (one_host (decoded v))
+            refl refl (omega arith) (omega (arith, (in-order spot e).from)) (omega (arith, (in-order spot e).to)) (omega (arith, tail-end spot e, end-within)) (omega arith)
+            (ap (λ (r : Reading). pick (host_fits (decoded v)) (follows (one_host (decoded v)) r) (ends 12)) (tail-reads spot e))
 
     pub host-says : Says s at (2 * (length s - at) + 2) (hosts (drop at s)) (host_step at (drop at s))
     unfolding hosts host_step

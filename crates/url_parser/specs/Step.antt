@@ -1,6 +1,6 @@
 -- What one step of the reading of a URI answers: t is the text from the place at on, and every place in an answer is counted from the whole text's start.
 -- Assumes nothing.
-use Rattle.std.specs.Prelude.{ℕ, ◌+◌, Bool, true, false, ◌&&◌, ◌||◌, List, eqb, ltb, leb, length, take, drop, get_or}
+use Rattle.std.specs.Prelude.{ℕ, ◌+◌, Bool, true, false, ◌&&◌, ◌||◌, List, eqb, ltb, leb, length, take, drop, get_or, Option, Some, None}
 use Rattle.byte.specs.Ascii.{bytes}
 use Rattle.byte.specs.Byte.{pick, part_of}
 use Rattle.split.specs.Split.{first_at}
@@ -95,25 +95,22 @@ port_step at t =
 
 -- where a host stands in a chunk, and where what follows it begins
 abbrev pub place : ℕ → ℕ → ℕ → HostPlace
-place from to tail = record { fault = false; from = from; to = to; tail = tail }
-
-abbrev pub faulty : HostPlace
-faulty = record { fault = true; from = 0; to = 0; tail = 0 }
+place from to tail = record { from = from; to = to; tail = tail }
 
 -- the place of the first `]` behind `[`
 abbrev pub closing : List ℕ → ℕ
 closing c = 1 + first_at 93 (drop 1 c)
 
-unfoldable pub host_place : List ℕ → HostPlace
+-- none where a bracket is not closed, or something else than `:` follows it
+unfoldable pub host_place : List ℕ → Option HostPlace
 host_place c =
     pick (eqb (get_or c 0 0) 91)
-    (pick (ltb (closing c) (length c) && closes (drop (closing c + 1) c)) (place 1 (closing c) (closing c + 1)) faulty)
-    (place 0 (first_at 58 c) (first_at 58 c))
+    (pick (ltb (closing c) (length c) && closes (drop (closing c + 1) c)) (Some (place 1 (closing c) (closing c + 1))) None)
+    (Some (place 0 (first_at 58 c) (first_at 58 c)))
 
-unfoldable pub placed_step : ℕ → List ℕ → HostPlace → UrlStep
-placed_step at c p =
-    pick p.fault (Ended 10)
-    (give 20 (at + p.from) (at + p.to) (host_checked (part_of p.from p.to c)) (url Port (at + p.tail)))
+unfoldable pub placed_step : ℕ → List ℕ → Option HostPlace → UrlStep
+placed_step at c None = Ended 10
+placed_step at c (Some p) = give 20 (at + p.from) (at + p.to) (host_checked (part_of p.from p.to c)) (url Port (at + p.tail))
 
 unfoldable pub chunk_step : ℕ → List ℕ → UrlStep
 chunk_step at t = placed_step at (take (chunk_end t) t) (host_place (take (chunk_end t) t))

@@ -44,9 +44,8 @@ pub enum UrlStep {
 }
 
 // Where in a chunk its host stands, and where what follows the host begins.
-#[derive(Clone, Copy)]
+#[derive(Clone, Copy, Debug, PartialEq, Eq, Hash)]
 pub struct HostPlace {
-    pub fault: bool,
     pub from: usize,
     pub to: usize,
     pub tail: usize,
