@@ -34,7 +34,7 @@ SLIPS = [
 """),
     ]),
     ("uri_host_split_at_commas", [
-        ("list_keys", "row_lists::add_host(", "row_lists::add_hosts("),
+        ("param", "20 => append(&mut config.host.list,", "20 => append_all(&mut config.host.list,"),
     ]),
     ("character_behind_backslash_dropped", [
         ("backslash", "{ at + 1 } else { at }", "{ at + 2 } else { at }"),
@@ -77,86 +77,87 @@ SLIPS = [
     ("replaced_value_removed", [
         ("reader", "// The settings of a text, applied in order", """\
 // The place of the text that is replaced, where nothing stands behind it.
-fn freed(fields: &[usize; 32], kind: usize, packed: usize) -> usize {
-    if kind == 0 {
-        return packed;
+fn freed(config: &Config, kind: usize, packed: usize) -> usize {
+    let replaced = match kind {
+        1 => config.user,
+        2 => config.password,
+        3 => config.dbname,
+        4 => config.options,
+        5 => config.application_name,
+        _ => None,
+    };
+    match replaced {
+        Some(place) => if place.start + place.len == packed { place.start } else { packed },
+        None => packed,
     }
-    if 5 < kind {
-        return packed;
-    }
-    let at = 3 * (kind - 1);
-    if fields[at] == 0 {
-        return packed;
-    }
-    if fields[at + 1] + fields[at + 2] == packed {
-        return fields[at + 1];
-    }
-    packed
 }
 
 // The settings of a text, applied in order"""),
-        ("reader", "        let t = taking::take_setting(", """\
-        let ahead = taking::take_setting(text, decode, uri, url, packed);
-        packed = freed(fields, ahead.kind, packed);
-        let t = taking::take_setting("""),
+        ("reader", "        let t = match taking::take_setting(", """\
+        if let Ok(Some(ahead)) = taking::take_setting(text, decode, uri, url, packed) {
+            packed = freed(config, ahead.kind, packed);
+        }
+        let t = match taking::take_setting("""),
     ]),
     ("replaced_value_wiped", [
-        ("reader", "        let t = taking::take_setting(", """\
-        let ahead = taking::take_setting(text, decode, uri, url, packed);
-        if ahead.kind == 2 {
-            byte::clear(decode, fields[4], fields[5]);
+        ("reader", "        let t = match taking::take_setting(", """\
+        if let Ok(Some(ahead)) = taking::take_setting(text, decode, uri, url, packed) {
+            if ahead.kind == 2 {
+                if let Some(place) = config.password {
+                    byte::clear(decode, place.start, place.len);
+                }
+            }
         }
-        let t = taking::take_setting("""),
+        let t = match taking::take_setting("""),
     ]),
     ("host_kept_per_piece", [
         ("reader", "// The settings of a text, applied in order", """\
 // Takes the commas out of a part of the buffer, and answers where it ends then.
 fn without_commas(decode: &mut [u8], at: usize, end: usize) -> usize {
     let mut k = at;
-    let mut i = at;
-    while i < end {
+    for i in at..end {
         let b = decode[i];
         if b != b',' {
             decode[k] = b;
             k += 1;
         }
-        i += 1;
     }
     k
 }
 
 // The hosts from one on, each nearer by as many commas as stood before it.
-fn close_up(hosts: &mut [usize; 48], first: usize, count: usize) {
-    let mut i = first;
-    while i < count {
-        hosts[3 * i + 1] -= i - first;
-        i += 1;
+fn close_up(config: &mut Config, first: usize) {
+    for i in first..config.host.count {
+        let kind = match config.host.list[i].kind {
+            lists::HostKind::Tcp(p) => lists::HostKind::Tcp(lists::Place { start: p.start - (i - first), len: p.len }),
+            lists::HostKind::Unix(p) => lists::HostKind::Unix(lists::Place { start: p.start - (i - first), len: p.len }),
+        };
+        config.host.list[i] = lists::Host { kind };
     }
 }
 
 // The settings of a text, applied in order"""),
-        ("reader", "        let fault = param::param(\n", """\
-        let before = fields[29];
-        let fault = param::param(
-"""),
+        ("reader", "        let verdict = param::param(", """\
+        let before = config.host.count;
+        let verdict = param::param("""),
         ("reader", "        packed = t.packed;\n", """\
         let at = packed;
         packed = t.packed;
-        if kind == 8 {
+        if t.kind == 8 {
             packed = without_commas(decode, at, t.end);
-            close_up(hosts, before, fields[29]);
+            close_up(config, before);
         }
 """),
     ]),
     ("values_of_every_key_kept", [
-        ("taking", "        _ => false,\n", "        _ => true,\n"),
+        ("taking", "    matches!(kind, 1..=5 | 8 | 20)\n", "    kind < 100\n"),
     ]),
     # the reader
     ("refusal_leaves_the_buffer", [
         ("ending", "    byte::clear(decode, 0, n);\n", "    byte::clear(decode, n, 0);\n"),
     ]),
     ("refused_setting_counted", [
-        ("ending", "        lists::key_of(fault, kind),\n        count,\n", "        lists::key_of(fault, kind),\n        count + 1,\n"),
+        ("ending", "        lists::key_of(verdict, kind),\n        count,\n", "        lists::key_of(verdict, kind),\n        count + 1,\n"),
     ]),
     ("longest_text_refused", [
         ("reader", "if 4096 < text.len() {", "if 4096 <= text.len() {"),
@@ -251,7 +252,7 @@ fn last_at_sign(s: &[u8], at: usize) -> usize {
         ("uri_chunks", "    c[at] == b':'\n", "    true\n"),
     ]),
     ("second_prefix_forgotten", [
-        ("names", "if has_long_prefix(s) {", "if has_short_prefix(s) {"),
+        ("names", "if byte::stands_at(name_table::name(34), 0, s) {", "if byte::stands_at(name_table::name(33), 0, s) {"),
     ]),
     # percent decoding, UTF-8
     ("plus_decoded_to_a_blank", [
@@ -295,16 +296,16 @@ fn last_at_sign(s: &[u8], at: usize) -> usize {
 """),
     ]),
     ("last_port_refused", [
-        ("integer", "read_unsigned(s, 0xffff) {", "read_unsigned(s, 0xfffe) {"),
+        ("integer", "read_unsigned(s, 0xffff)?", "read_unsigned(s, 0xfffe)?"),
     ]),
     ("lowest_number_refused", [
-        ("integer", "match number::digits_from(s, 1, 10, 0x8000_0000_0000_0000) {", "match number::digits_from(s, 1, 10, 0x7fff_ffff_ffff_ffff) {"),
+        ("integer", "digits_from(s, 1, 10, 0x8000_0000_0000_0000)?", "digits_from(s, 1, 10, 0x7fff_ffff_ffff_ffff)?"),
     ]),
     ("leading_zero_in_an_address", [
         ("ipv4", "    1 < s.len()\n", "    false\n"),
     ]),
     ("double_colon_for_no_group", [
-        ("address", "if 7 - l.n < r.n {", "if 8 - l.n < r.n {"),
+        ("address", "7 - l.n < r.n {", "8 - l.n < r.n {"),
     ]),
     ("four_parts_before_a_double_colon", [
         ("address", "read_side(&s[..gap], false)", "read_side(&s[..gap], true)"),
@@ -314,55 +315,48 @@ fn last_at_sign(s: &[u8], at: usize) -> usize {
     ]),
     # settings
     ("sixteenth_host_refused", [
-        ("row_lists", """\
-        if 16 <= count {
-            return Added {
-                fault: Fault::ManyHosts,
-""", """\
-        if 15 <= count {
-            return Added {
-                fault: Fault::ManyHosts,
+        ("list_keys", "    lists::keep(list, count, T::read(start, piece)?, T::FULL)\n", """\
+    if T::FULL.number() == 13 && 15 <= *count {
+        return Err(T::FULL);
+    }
+    lists::keep(list, count, T::read(start, piece)?, T::FULL)
 """),
     ]),
     ("room_judged_before_form", [
-        ("row_lists", "        let read = row_entries::read_port(", """\
-        if 16 <= count {
-            return Added { fault: Fault::ManyPorts, count: count };
-        }
-        let read = row_entries::read_port("""),
-    ]),
-    ("empty_port_piece_refused", [
-        ("row_entries", "        return Number16::Is(5432);\n", "        return Number16::Form;\n"),
-    ]),
-    ("zero_timeout_stored", [
-        ("field_keys", "            if seconds == 0 {\n                return Fault::NoFault;\n            }\n", ""),
-    ]),
-    ("keepalives_on_for_one_only", [
-        ("field_keys", "            fields[27] = n as usize;\n", """\
-            fields[27] = 0;
-            if n == 1 {
-                fields[27] = 1;
-            }
+        ("list_keys", "    lists::keep(list, count, T::read(start, piece)?, T::FULL)\n", """\
+    if T::FULL.number() == 15 && 16 <= *count {
+        return Err(T::FULL);
+    }
+    lists::keep(list, count, T::read(start, piece)?, T::FULL)
 """),
     ]),
+    ("empty_port_piece_refused", [
+        ("list_keys", "            return Ok(5432);\n", "            return Err(Fault::Form);\n"),
+    ]),
+    ("zero_timeout_stored", [
+        ("field_keys", "    if seconds != 0 {\n        *field = Some(seconds);\n    }\n", "    *field = Some(seconds);\n"),
+    ]),
+    ("keepalives_on_for_one_only", [
+        ("field_keys", "*field = 0 < number::read_unsigned(", "*field = 1 == number::read_unsigned("),
+    ]),
     ("read_only_taken_for_read_write", [
-        ("row_values", "word: TargetSessionAttrs::ReadOnly,", "word: TargetSessionAttrs::ReadWrite,"),
+        ("field_keys", "_ => TargetSessionAttrs::ReadOnly,", "_ => TargetSessionAttrs::ReadWrite,"),
     ]),
     ("unknown_key_passed_over", [
-        ("param", "_ => Fault::UnknownKey,", "_ => Fault::NoFault,"),
+        ("param", "_ => Err(Fault::UnknownKey),", "_ => Ok(()),"),
     ]),
     ("first_of_repeated_users_stays", [
-        ("param", "        1 => field_keys::put_text(fields, 0, start, v.len()),\n", """\
+        ("param", "        1 => put_text(&mut config.user, start, len),\n", """\
         1 => {
-            if 0 < fields[0] {
-                return Fault::NoFault;
+            if config.user.is_some() {
+                return Ok(());
             }
-            field_keys::put_text(fields, 0, start, v.len())
+            put_text(&mut config.user, start, len)
         }
 """),
     ]),
     ("idle_of_an_hour_by_default", [
-        ("rows", "7200, 1, 0,\n", "3600, 1, 0,\n"),
+        ("config", "keepalives_idle: 7200,", "keepalives_idle: 3600,"),
     ]),
     # the report
     ("password_shown", [
@@ -381,11 +375,11 @@ fn last_at_sign(s: &[u8], at: usize) -> usize {
         ("line", "draw::put_bytes(b\"unix:\", dst, pen)", "draw::put_bytes(b\"tcp:\", dst, pen)"),
     ]),
     ("zero_retries_not_shown", [
-        ("fields", "    lines::number_line(key, s.retries as u64, dst, pen)\n", """\
-    if s.retries == 0 {
+        ("fields", "    put_seconds(key, r.map(u64::from), dst, pen)\n", """\
+    if r == Some(0) {
         return pen;
     }
-    lines::number_line(key, s.retries as u64, dst, pen)
+    put_seconds(key, r.map(u64::from), dst, pen)
 """),
     ]),
 ]
