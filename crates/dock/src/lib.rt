@@ -26,12 +26,10 @@ pub fn nyimbrak_read(text: &[u8], decode: &mut [u8], report: &mut [u8]) -> u32
     ensures report_after { report.new ≡ entry_left text.now decode.old report.old }
 {
     let a = reader::read(text, decode);
-    let number = a.number;
-    if number != 0 {
-        return REFUSED + number as u32;
+    if a.number != 0 {
+        return REFUSED + a.number as u32;
     }
-    let config = a.config;
-    entry::report_into(config, byte::part(decode, 0, text.len()), report)
+    entry::report_into(a.config, byte::part(decode, 0, text.len()), report)
 }
 
 // Where the value of a key, 1 to 5, lies in `decode`: 2^62 + 2^16 · start + length, or 0 where it is not set, or 2^63 plus the refusal.
@@ -40,10 +38,8 @@ pub fn nyimbrak_place(text: &[u8], decode: &mut [u8], key: u32) -> u64
     ensures decode_after { decode.new ≡ left text.now decode.old }
 {
     let a = reader::read(text, decode);
-    let number = a.number;
-    if number != 0 {
-        return NO_PLACE + number as u64;
+    if a.number != 0 {
+        return NO_PLACE + a.number as u64;
     }
-    let config = a.config;
-    places::place_of(places::text_of(config, key), text.len())
+    places::place_of(places::text_of(a.config, key), text.len())
 }

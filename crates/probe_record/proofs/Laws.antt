@@ -6,39 +6,25 @@ use mathlib.Core.Bool.{Bool, true, false}
 use mathlib.Core.List.{List}
 use native.Mathlib.Omega.{arith}
 use lib.Dec.{eqb, ltb}
-use lib.ListN.{get_or}
-use borrow.Author.Tests.{eq-eqb, ne_eqb, lt-ltb, le-ltb}
+use borrow.Author.Tests.{ne_eqb, lt-ltb, le-ltb}
 use Rattle.std.specs.Prelude.{Result, ⊤, Ok, Err, is_err}
 use Rattle.byte.specs.Byte.{pick, part_of}
-use Rattle.names.specs.Find.{key_number}
 use Rattle.lists.specs.declared.Fault.{Fault}
 use Rattle.lists.specs.Fault.{is_fine, number_of, key_of}
 use Rattle.lists.proofs.Faults.{fault-numbered}
 use Rattle.config.specs.declared.Config.{Config}
 use Rattle.apply.specs.Apply.{applied}
 use Rattle.param.specs.Sets.{Sets}
-use Rattle.report.specs.declared.Answer.{Answer}
+use Rattle.report.specs.declared.ReportError.{ReportError}
 use Rattle.report.specs.Answer.{reported, reported_into}
 use Rattle.probe_record.specs.declared.Given.{Given}
 use Rattle.probe_record.specs.declared.Reached.{Reached}
 use Rattle.probe_record.specs.declared.Settled.{Settled}
-use Rattle.probe_record.specs.Settled.{value_at, given_at, refusal, booked, step_of, first, settled, reached_of, told_len, told}
-
-module _ (l : List ℕ) (at : ℕ) where
-  pub given-host : get_or l at 0 ≡ 255 → value_at l 20 (at + 1) ≡ given_at l at
-  given-host e = rw (eq-eqb (get_or l at 0) 255 e)
-
-  pub given-key : (get_or l at 0 ≡ 255 → ⊥)
-      → value_at l (key_number (part_of (at + 1) (at + 1 + get_or l at 0) l)) (at + 1 + get_or l at 0) ≡ given_at l at
-  given-key e = rw (ne_eqb (get_or l at 0) 255 e)
+use Rattle.probe_record.specs.Settled.{given_at, refusal, booked, step_of, first, settled, reached_of, told_len, told}
 
 -- a state with nothing refused
 abbrev pub on : ℕ → Config → Settled
 on at c = record { number = 0; key = 0; at = at; config = c }
-
--- no record is promised of a refusal
-pub no_record : {A : Type 0} → (f : Result ⊤ Fault) → is_fine f ≡ false → (r : ℕ) → r ≡ number_of f → r ≡ 0 → A
-no_record f e r q z = absurd (fault-numbered f e (sym q ∙ z))
 
 module _ (l : List ℕ) where
   settled-step : (n : ℕ) (s : Settled) → 0 < n → settled n l s ≡ settled (n - 1) l (step_of l s)
@@ -85,6 +71,13 @@ module _ (n : ℕ) (l : List ℕ) (at : ℕ) (c : Config) where
         let q : step_of l (on at c) ≡ refusal (record { number = number_of f; key = key_of f g.kind; at = at }) = step-on ∙ rw (sym x.0, e) in
         settled-step l n (on at c) h ∙ ap (settled (n - 1) l) q ∙ settled-still l (n - 1) _ (step-refused l _ (fault-numbered f e))
 
+-- the same where the settings left are told by a counter
+pub goes_next : (n k : ℕ) (l : List ℕ) (at : ℕ) (c : Config) → k < n → at ≤ 65536 → (g : Given) → g ≡ given_at l at → (f : Result ⊤ Fault) (r : Config)
+    → Sets f (applied g.kind (part_of g.start g.end l) g.start c) r → is_fine f ≡ true → settled (n - k) l (on at c) ≡ settled (n - (k + 1)) l (on g.end r)
+goes_next n k l at c h near g p f r x e =
+    let less : n - k - 1 ≡ n - (k + 1) = omega arith in
+    goes (n - k) l at c (omega arith) near g p f r x e ∙ ap (λ (m : ℕ). settled m l (on g.end r)) less
+
 -- a refusal says no more than its number, its key and its place
 abbrev Plain : Settled → Type 0
 Plain s = (s.number ≡ 0 → ⊥) → refusal (reached_of s) ≡ s
@@ -104,17 +97,12 @@ settled_plain l zero s p = p
 settled_plain l (suc n) s p = settled_plain l n (step_of l s) (step-plain l s p)
 
 module _ (n : ℕ) (l : List ℕ) (e : Reached) (is : e ≡ reached_of (settled n l first)) where
-  -- a list that is refused is told from how far it went ..
+  -- a list that is refused is told from how far it went
   pub refused-plain : (e.number ≡ 0 → ⊥) → refusal e ≡ settled n l first
   refused-plain h = rw is (settled_plain l n first (λ z. absurd (z refl)) (λ z. h (ap (λ (x : Reached). x.number) is ∙ z)))
 
-  -- .. and any from that and its record
-  pub whole : (x : Config) → x ≡ (settled n l first).config
-      → ◌≡◌ {A = Settled} (record { number = e.number; key = e.key; at = e.at; config = x }) (settled n l first)
-  whole x q = rw (is, q)
-
 -- what is told of a state that is known, and what its report leaves
-pub told_of : (s t : Settled) → s ≡ t → (l d e : List ℕ) (room : ℕ) (a : Answer) → a ≡ reported l s.config room → e ≡ reported_into l s.config d
+pub told_of : (s t : Settled) → s ≡ t → (l d e : List ℕ) (room : ℕ) (a : Result ℕ ReportError) → a ≡ reported l s.config room → e ≡ reported_into l s.config d
     → (n : ℕ) → n ≡ told_len a
     → (record { number = s.number; key = s.key; at = s.at; len = n } ≡ told t l room) × (e ≡ reported_into l t.config d)
 unfolding told

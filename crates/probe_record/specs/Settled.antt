@@ -1,12 +1,12 @@
 -- Settings in bytes, applied one after the other, as a C caller gives them and takes the outcome.
 -- Assumes nothing.
-use Rattle.std.specs.Prelude.{ℕ, zero, suc, ◌+◌, ◌*◌, List, eqb, ltb, get_or}
+use Rattle.std.specs.Prelude.{ℕ, zero, suc, ◌+◌, ◌*◌, List, eqb, ltb, get_or, Result, Ok, Err}
 use Rattle.byte.specs.Byte.{pick, part_of}
 use Rattle.names.specs.Find.{key_number}
 use Rattle.lists.specs.Fault.{is_fine, number_of, key_of}
 use Rattle.config.specs.Config.{defaults}
 use Rattle.apply.specs.Apply.{Applied, applied}
-use Rattle.report.specs.declared.Answer.{Answer}
+use Rattle.report.specs.declared.ReportError.{ReportError}
 use Rattle.report.specs.Answer.{reported}
 use Rattle.probe_record.specs.declared.Given.{Given}
 use Rattle.probe_record.specs.declared.Reached.{Reached}
@@ -54,10 +54,10 @@ settled (suc n) l s = settled n l (step_of l s)
 abbrev pub reached_of : Settled → Reached
 reached_of s = record { number = s.number; key = s.key; at = s.at }
 
-abbrev pub told_len : Answer → ℕ
-told_len (Answer.Length n) = n
-told_len Answer.Short = 1000016
-told_len Answer.Unsound = 1000017
+abbrev pub told_len : Result ℕ ReportError → ℕ
+told_len (Ok n) = n
+told_len (Err ReportError.Short) = 1000016
+told_len (Err ReportError.Unsound) = 1000017
 
 unfoldable pub told : Settled → List ℕ → ℕ → Told
 told s l room = record { number = s.number; key = s.key; at = s.at; len = told_len (reported l s.config room) }

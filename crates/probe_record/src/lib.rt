@@ -9,6 +9,7 @@ ghost use Rattle.probe_record.specs.Settled.{value_at, given_at, first, settled,
 
 use config::Config;
 use lists::Fault;
+use report::ReportError;
 
 // A setting's kind, and where its value stands.
 #[derive(Clone, Copy)]
@@ -134,13 +135,13 @@ fn settle(n: usize, list: &[u8]) -> Settled
 }
 
 // A report's length, or 1,000,000 plus the refusal.
-fn tell_len(a: report::Answer) -> usize
-    ensures { result ≡ told_len a }
+fn tell_len(answer: Result<usize, ReportError>) -> usize
+    ensures { result ≡ told_len answer }
 {
-    match a {
-        report::Answer::Length(n) => n,
-        report::Answer::Short => 1000016,
-        report::Answer::Unsound => 1000017,
+    match answer {
+        Ok(n) => n,
+        Err(ReportError::Short) => 1000016,
+        Err(ReportError::Unsound) => 1000017,
     }
 }
 

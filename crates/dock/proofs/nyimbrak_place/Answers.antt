@@ -10,14 +10,14 @@ pub overflow_add-result : goal.overflow_add-result
 overflow_add-result c =
     let h : Small _ = small _ _ _ c.read-a.ensures.value in omega arith
 
-pub returns-then-number-ne0 : goal.returns-then-number-ne0
-returns-then-number-ne0 c =
-    record { value = place-refused _ _ _ c.read-a.ensures.value c.if-number-ne0.true _; decode_after = c.read-a.ensures.decode_after }
+pub returns-then-a-ne0 : goal.returns-then-a-ne0
+returns-then-a-ne0 c =
+    record { value = place-refused _ _ _ c.read-a.ensures.value c.if-a-ne0.true _; decode_after = c.read-a.ensures.decode_after }
 
 pub place_of-requires : goal.place_of-requires
 place_of-requires c =
-    within _ _ _ c.read-a.ensures.value c.if-number-ne0.false
+    within _ _ _ c.read-a.ensures.value c.if-a-ne0.false
 
 pub returns : goal.returns
 returns c =
-    record { value = c.place_of.ensures ∙ place-told _ _ _ c.read-a.ensures.value c.if-number-ne0.false _ _ c.text_of.ensures; decode_after = c.read-a.ensures.decode_after }
+    record { value = c.place_of.ensures ∙ place-told _ _ _ c.read-a.ensures.value c.if-a-ne0.false _ _ c.text_of.ensures; decode_after = c.read-a.ensures.decode_after }

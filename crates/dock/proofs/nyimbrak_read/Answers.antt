@@ -16,13 +16,13 @@ pub overflow_add-result : goal.overflow_add-result
 overflow_add-result c =
     let h : Small _ = small _ _ _ c.read-a.ensures.value in omega arith
 
-pub returns-then-number-ne0 : goal.returns-then-number-ne0
-returns-then-number-ne0 c =
+pub returns-then-a-ne0 : goal.returns-then-a-ne0
+returns-then-a-ne0 c =
     let e = c.read-a.ensures.value in
-    record { value = entry-refused c.args.text.now c.args.decode.now _ e c.if-number-ne0.true _; decode_after = c.read-a.ensures.decode_after; report_after = left-refused c.args.text.now c.args.decode.now _ e c.if-number-ne0.true _ }
+    record { value = entry-refused c.args.text.now c.args.decode.now _ e c.if-a-ne0.true _; decode_after = c.read-a.ensures.decode_after; report_after = left-refused c.args.text.now c.args.decode.now _ e c.if-a-ne0.true _ }
 
 pub returns : goal.returns
 returns c =
     let e = c.read-a.ensures.value in
     let i = c.part.ensures ∙ ap (part_of 0 (length c.args.text.now)) c.read-a.ensures.decode_after in
-    record { value = entry-told c.args.text.now c.args.decode.now _ e c.if-number-ne0.false _ i _ _ c.report_into.ensures.value; decode_after = c.read-a.ensures.decode_after; report_after = left-told c.args.text.now c.args.decode.now _ e c.if-number-ne0.false _ i _ _ c.report_into.ensures.dst_after }
+    record { value = entry-told c.args.text.now c.args.decode.now _ e c.if-a-ne0.false _ i _ _ c.report_into.ensures.value; decode_after = c.read-a.ensures.decode_after; report_after = left-told c.args.text.now c.args.decode.now _ e c.if-a-ne0.false _ i _ _ c.report_into.ensures.dst_after }
