@@ -52,11 +52,21 @@ pub fn name_len(i: usize) -> usize
     name(i).len()
 }
 
-// Whether `s` is name i.
+// Whether `s` is name i. Byte by byte: a compiler that knows the name unrolls this; `==` and `starts_with` were tried, and cost more
+// instructions for a key and a prefix, since they end in calls.
 pub fn is_name(s: &[u8], i: usize) -> bool
     ensures { result ≡ same s.now (get_or fixed i []) }
 {
-    byte::equals(s, name(i))
+    let wanted = name(i);
+    if s.len() != wanted.len() {
+        return false;
+    }
+    for k in 0..s.len() {
+        if s[k] != wanted[k] {
+            return false;
+        }
+    }
+    true
 }
 
 // Writes name i, as `byte::copy` does.

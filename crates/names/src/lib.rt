@@ -2,9 +2,10 @@
 #![tactic(auto)]
 
 ghost use Rattle.std.specs.Prelude.{◌≡◌, [], ◌+◌, ◌≤◌, length, get_or, take, drop};
+ghost use Rattle.byte.specs.Same.{stands_at};
 ghost use Rattle.byte.specs.Put.{written, after};
 ghost use Rattle.name_table.specs.Names.{fixed, words_of, key_name, word_name};
-ghost use Rattle.name_table.specs.Find.{key_number, word_number, prefix_len};
+ghost use Rattle.name_table.specs.Find.{number_in, key_number, word_number, prefix_len};
 
 // The number of a key, or 0.
 pub fn key_number(s: &[u8]) -> usize
@@ -13,27 +14,12 @@ pub fn key_number(s: &[u8]) -> usize
     key_match::number_of(s)
 }
 
-// Where the words of a key start among the names, and how many they are.
-#[tactic(auto, unfolding(name_table::specs::Names::fixed, name_table::specs::Names::words_of))]
-fn word_run(key: usize) -> (usize, usize)
-    ensures room { result.0 + result.1 ≤ 35 }
-    ensures words { take result.1 (drop result.0 fixed) ≡ words_of key }
+// Which of the n names from `first` on `s` is, counted from 1, or 0. Always inlined, so that its callers' names are known to the compiler.
+#[inline(always)]
+fn number_among(first: usize, n: usize, s: &[u8]) -> usize
+    requires { first + n ≤ 35 }
+    ensures { result ≡ number_in (take n (drop first fixed)) s.now }
 {
-    match key {
-        6 => (20, 3),
-        7 => (23, 2),
-        17 => (25, 3),
-        18 => (28, 3),
-        19 => (31, 2),
-        _ => (0, 0),
-    }
-}
-
-// The number of a word of the key, or 0.
-pub fn word_number(key: usize, s: &[u8]) -> usize
-    ensures { result ≡ word_number key s.now }
-{
-    let (first, n) = word_run(key);
     for k in 0..n {
         if name_table::is_name(s, first + k) {
             return k + 1;
@@ -42,14 +28,37 @@ pub fn word_number(key: usize, s: &[u8]) -> usize
     0
 }
 
+// The number of a word of the key, or 0.
+#[tactic(auto, unfolding(name_table::specs::Names::fixed, name_table::specs::Names::words_of, name_table::specs::Find::word_number))]
+pub fn word_number(key: usize, s: &[u8]) -> usize
+    ensures { result ≡ word_number key s.now }
+{
+    match key {
+        6 | 18 => number_among(20, 3, s),
+        7 => number_among(23, 2, s),
+        17 => number_among(25, 3, s),
+        19 => number_among(31, 2, s),
+        _ => 0,
+    }
+}
+
+// Whether `s` starts with name i. Always inlined, as `number_among` is.
+#[inline(always)]
+fn starts_with_name(s: &[u8], i: usize) -> bool
+    ensures { result ≡ stands_at (get_or fixed i []) 0 s.now }
+{
+    let n = name_table::name_len(i);
+    n <= s.len() && name_table::is_name(&s[..n], i)
+}
+
 // The length of the prefix that makes a text a URI, or 0.
 pub fn prefix_len(s: &[u8]) -> usize
     ensures { result ≡ prefix_len s.now }
 {
-    if byte::stands_at(name_table::name(33), 0, s) {
+    if starts_with_name(s, 33) {
         return name_table::name_len(33);
     }
-    if byte::stands_at(name_table::name(34), 0, s) {
+    if starts_with_name(s, 34) {
         return name_table::name_len(34);
     }
     0
@@ -60,6 +69,21 @@ fn key_place(key: usize) -> usize
     ensures { get_or fixed result [] ≡ key_name key }
 {
     if 20 <= key { 0 } else { key }
+}
+
+// Where the words of a key start among the names, and how many they are.
+#[tactic(auto, unfolding(name_table::specs::Names::fixed, name_table::specs::Names::words_of))]
+fn word_run(key: usize) -> (usize, usize)
+    ensures room { result.0 + result.1 ≤ 35 }
+    ensures words { take result.1 (drop result.0 fixed) ≡ words_of key }
+{
+    match key {
+        6 | 18 => (20, 3),
+        7 => (23, 2),
+        17 => (25, 3),
+        19 => (31, 2),
+        _ => (0, 0),
+    }
 }
 
 // The place of word w of key k among the names, or of the empty name.

@@ -1,5 +1,5 @@
 -- `prefix_len` meets its contract: the two prefixes in turn. Assumes nothing.
-use mathlib.Core.Path.{◌≡◌, refl, sym, ap, ◌∙◌}
+use mathlib.Core.Path.{◌≡◌, refl, sym, ◌∙◌}
 use mathlib.Core.List.{List, []}
 use mathlib.Core.Bool.{Bool, true, false}
 use Prim.Native.Nat.{ℕ}
@@ -16,19 +16,15 @@ by_tests : (s : List ℕ) (p q : Bool) → p ≡ stands_at (get_or fixed 33 []) 
 unfolding prefix_len start_len fixed
 by_tests s p q e f = rw (e, f)
 
-pub returns-then-stands_at : goal.returns-then-stands_at
-returns-then-stands_at c =
-    let first = sym c.if-stands_at.true ∙ c.stands_at.ensures ∙ ap (λ (w : List ℕ). stands_at w 0 c.args.s.now) c.name.ensures in
-    c.name_len.ensures ∙ sym (by_tests _ true _ first refl)
+pub returns-then-starts_with_name : goal.returns-then-starts_with_name
+returns-then-starts_with_name c =
+    c.name_len.ensures ∙ sym (by_tests _ true _ (sym c.if-starts_with_name.true ∙ c.starts_with_name.ensures) refl)
 
-pub returns-then-stands_at-2 : goal.returns-then-stands_at-2
-returns-then-stands_at-2 c =
-    let first = sym c.if-stands_at.false ∙ c.stands_at.ensures ∙ ap (λ (w : List ℕ). stands_at w 0 c.args.s.now) c.name.ensures in
-    let second = sym c.if-stands_at-2.true ∙ c.stands_at-2.ensures ∙ ap (λ (w : List ℕ). stands_at w 0 c.args.s.now) c.name-2.ensures in
-    c.name_len-then-stands_at-2.ensures ∙ sym (by_tests _ false true first second)
+pub returns-then-starts_with_name-2 : goal.returns-then-starts_with_name-2
+returns-then-starts_with_name-2 c =
+    c.name_len-then-starts_with_name-2.ensures
+    ∙ sym (by_tests _ false true (sym c.if-starts_with_name.false ∙ c.starts_with_name.ensures) (sym c.if-starts_with_name-2.true ∙ c.starts_with_name-2.ensures))
 
 pub returns : goal.returns
 returns c =
-    let first = sym c.if-stands_at.false ∙ c.stands_at.ensures ∙ ap (λ (w : List ℕ). stands_at w 0 c.args.s.now) c.name.ensures in
-    let second = sym c.if-stands_at-2.false ∙ c.stands_at-2.ensures ∙ ap (λ (w : List ℕ). stands_at w 0 c.args.s.now) c.name-2.ensures in
-    sym (by_tests _ false false first second)
+    sym (by_tests _ false false (sym c.if-starts_with_name.false ∙ c.starts_with_name.ensures) (sym c.if-starts_with_name-2.false ∙ c.starts_with_name-2.ensures))
