@@ -9,13 +9,12 @@ use native.Mathlib.Nat.{add-zero}
 use native.Mathlib.Omega.{arith}
 use lib.ListN.{length}
 use Rattle.setting.specs.Setting.{Setting, kind_of, value_of}
-use Rattle.lists.specs.declared.Fault.{Fault}
+use Rattle.std.specs.Prelude.{Ok}
 use Rattle.lists.specs.Fault.{is_fine, number_of, key_of}
 use Rattle.lists.proofs.Faults.{fine-none}
 use Rattle.config.specs.declared.Config.{Config}
 use Rattle.config.specs.Config.{defaults}
-use Rattle.apply.specs.declared.Applied.{Applied}
-use Rattle.apply.specs.Apply.{applied}
+use Rattle.apply.specs.Apply.{Applied, applied}
 use Rattle.outcome.specs.Outcome.{reading, kept, refused, ended, outcome, outcome_of}
 use Rattle.demands.specs.Giving.{joined, Applies, none, next, FailsFrom, Fails, WholeFrom, Whole}
 
@@ -64,7 +63,7 @@ module _ (b : List ℕ) (c : Config) (x : Setting) (xs : List Setting) where
         fails = e;
       }
 
-  module _ (e : done.fault ≡ Fault.NoFault) where
+  module _ (e : done.fault ≡ Ok tt) where
     fails-later : FailsFrom (b ++ kept x) done.config xs → FailsFrom b c (x ∷ xs)
     unfolding joined
     fails-later f =

@@ -18,8 +18,9 @@ use Rattle.keyvalue.proofs.Stands.{Number, Stands, stands, number}
 use Rattle.keyvalue.proofs.Reading.{reading-done, reading-refused, reading-found}
 use Rattle.url_parser.specs.Uri.{uri}
 use Rattle.url_parser.proofs.Ends.{UriEnd, uri-end}
+use Rattle.std.specs.Prelude.{Result, Ok, Err, ⊤}
 use Rattle.lists.specs.declared.Fault.{Fault}
-use Rattle.lists.specs.Fault.{is_fine, number_of}
+use Rattle.lists.specs.Fault.{fault_number, is_fine, number_of}
 use Rattle.outcome.specs.Outcome.{reading}
 use Rattle.demands.specs.Leaving.{FaultNumber}
 
@@ -63,16 +64,19 @@ module _ (s : List ℕ) where
   end-refusal h = refusal-of (reading s).end reading-ending h
 
 -- a fault's number
-pub fault-number : (f : Fault) → is_fine f ≡ false → FaultNumber (number_of f)
-fault-number Fault.NoFault e = let z : ◌≡◌ {A = ℕ} 0 1 = cc in absurd (omega arith)
-fault-number Fault.UnknownKey e = inl (omega arith, omega arith)
-fault-number Fault.Word e = inl (omega arith, omega arith)
-fault-number Fault.Form e = inl (omega arith, omega arith)
-fault-number Fault.Range e = inl (omega arith, omega arith)
-fault-number Fault.NoAddress e = inl (omega arith, omega arith)
-fault-number Fault.ManyHosts e = inr (omega arith, omega arith)
-fault-number Fault.ManyHostaddrs e = inr (omega arith, omega arith)
-fault-number Fault.ManyPorts e = inr (omega arith, omega arith)
+fault-code : (f : Fault) → FaultNumber (fault_number f)
+fault-code Fault.UnknownKey = inl (omega arith, omega arith)
+fault-code Fault.Word = inl (omega arith, omega arith)
+fault-code Fault.Form = inl (omega arith, omega arith)
+fault-code Fault.Range = inl (omega arith, omega arith)
+fault-code Fault.NoAddress = inl (omega arith, omega arith)
+fault-code Fault.ManyHosts = inr (omega arith, omega arith)
+fault-code Fault.ManyHostaddrs = inr (omega arith, omega arith)
+fault-code Fault.ManyPorts = inr (omega arith, omega arith)
+
+pub fault-number : (r : Result ⊤ Fault) → is_fine r ≡ false → FaultNumber (number_of r)
+fault-number (Ok x) e = let z : ◌≡◌ {A = ℕ} 0 1 = cc in absurd (omega arith)
+fault-number (Err f) e = fault-code f
 
 pub fault-least : (n : ℕ) → FaultNumber n → 4 ≤ n
 fault-least n (inl h) = h.0

@@ -3,19 +3,18 @@
 use Prim.Native.Nat.{ℕ, zero, suc, ◌+◌, ◌-◌, ◌^◌, ◌<◌}
 use mathlib.Core.Path.{◌≡◌, refl, sym, subst}
 use mathlib.Core.List.{List, [], ◌∷◌, ◌++◌, map}
-use Rattle.std.specs.Prelude.{Option, Some}
+use Rattle.std.specs.Prelude.{Option, Some, None, Result, Ok, Err}
 use native.Mathlib.Omega.{arith}
 use lib.Dec.{eqb}
 use lib.IntN.{pos, neg_ℤ}
 use lib.ListN.{length, get_or, drop}
-use Rattle.number.specs.declared.Number.{Number}
+use Rattle.number.specs.declared.NumberError.{NumberError}
 use Rattle.number.specs.Number.{digits_in, unsigned_of}
 use Rattle.integer.specs.Integer.{negative, positive, signed_of}
 use Rattle.number.proofs.Laws.{unsigned-low}
 use Rattle.split.specs.Split.{onto, split}
 use Rattle.address.specs.declared.Kind.{Kind}
 use Rattle.address.specs.declared.Address.{Address}
-use Rattle.address.specs.declared.AddressRead.{AddressRead}
 use Rattle.address.specs.Address.{address_of}
 use Rattle.address.specs.Form.{Within}
 use Rattle.address.proofs.Bounds.{address-within}
@@ -35,33 +34,29 @@ use Rattle.demands.proofs.Bytes.{picked, all_append, well-bytes, Valued, valued}
 use Rattle.demands.proofs.Shows.{read-tells}
 
 -- what was read as a number
-abbrev SmallNumber : Number → Type 0
-SmallNumber (Number.Is n) = Small n
-SmallNumber Number.Form = Unit {0}
-SmallNumber Number.Range = Unit {0}
+abbrev SmallNumber : Result ℕ NumberError → Type 0
+SmallNumber (Ok n) = Small n
+SmallNumber (Err x) = Unit {0}
 
 unsigned_small : (max : ℕ) (v : List ℕ) → max < 2 ^ 64 → SmallNumber (unsigned_of max v)
 unsigned_small max v h = by (unsigned_of max v) refl
   where
-    by : (x : Number) → unsigned_of max v ≡ x → SmallNumber x
-    by (Number.Is n) e = omega (arith, unsigned-low max v n e)
-    by Number.Form e = tt
-    by Number.Range e = tt
+    by : (x : Result ℕ NumberError) → unsigned_of max v ≡ x → SmallNumber x
+    by (Ok n) e = omega (arith, unsigned-low max v n e)
+    by (Err x) e = tt
 
 -- seconds: what is negative counts as 0
-positive-small : (x : Number) → SmallNumber x → SmallNumber (seconds_read (positive x))
-positive-small (Number.Is n) h = h
-positive-small Number.Form h = tt
-positive-small Number.Range h = tt
+positive-small : (x : Result ℕ NumberError) → SmallNumber x → SmallNumber (seconds_read (positive x))
+positive-small (Ok n) h = h
+positive-small (Err x) h = tt
 
 below-zero : (n : ℕ) → Small (seconds_of (neg_ℤ (pos n)))
 below-zero zero = omega arith
 below-zero (suc n) = omega arith
 
-negative-small : (x : Number) → SmallNumber (seconds_read (negative x))
-negative-small (Number.Is n) = below-zero n
-negative-small Number.Form = tt
-negative-small Number.Range = tt
+negative-small : (x : Result ℕ NumberError) → SmallNumber (seconds_read (negative x))
+negative-small (Ok n) = below-zero n
+negative-small (Err x) = tt
 
 seconds-small : (v : List ℕ) → SmallNumber (seconds_in v)
 unfolding seconds_in signed_of
@@ -70,30 +65,26 @@ seconds-small v =
     (negative-small (digits_in 10 (2 ^ 63) (drop 1 v)))
     (positive-small (unsigned_of (2 ^ 63 - 1) v) (unsigned_small (2 ^ 63 - 1) v (omega arith)))
 
-time-small : (old : Option ℕ) (x : Number) → Maybe Small old → SmallNumber x → Maybe Small (time_given old x)
-time-small old (Number.Is n) h k = picked (Maybe Small) (eqb n 0) old (Some n) h k
-time-small old Number.Form h k = h
-time-small old Number.Range h k = h
+time-small : (old : Option ℕ) (x : Result ℕ NumberError) → Maybe Small old → SmallNumber x → Maybe Small (time_given old x)
+time-small old (Ok n) h k = picked (Maybe Small) (eqb n 0) old (Some n) h k
+time-small old (Err x) h k = h
 
-idle-small : (old : ℕ) (x : Number) → Small old → SmallNumber x → Small (idle_after old x)
-idle-small old (Number.Is n) h k = picked Small (eqb n 0) old n h k
-idle-small old Number.Form h k = h
-idle-small old Number.Range h k = h
+idle-small : (old : ℕ) (x : Result ℕ NumberError) → Small old → SmallNumber x → Small (idle_after old x)
+idle-small old (Ok n) h k = picked Small (eqb n 0) old n h k
+idle-small old (Err x) h k = h
 
-retries-small : (old : Option ℕ) (x : Number) → Maybe Small old → SmallNumber x → Maybe Small (retries_given old x)
-retries-small old (Number.Is n) h k = k
-retries-small old Number.Form h k = h
-retries-small old Number.Range h k = h
+retries-small : (old : Option ℕ) (x : Result ℕ NumberError) → Maybe Small old → SmallNumber x → Maybe Small (retries_given old x)
+retries-small old (Ok n) h k = k
+retries-small old (Err x) h k = h
 
 -- the pieces of a list's value
 abbrev Good : {A : Type 0} → (A → Type 0) → Piece A → Type 0
 Good p (good a) = p a
 Good p (bad f) = Unit {0}
 
-port-read : (x : Number) → SmallNumber x → Good Small (port_read x)
-port-read (Number.Is n) h = h
-port-read Number.Form h = tt
-port-read Number.Range h = tt
+port-read : (x : Result ℕ NumberError) → SmallNumber x → Good Small (port_read x)
+port-read (Ok n) h = h
+port-read (Err x) h = tt
 
 port-piece : (v : List ℕ) → Good Small (port_piece v)
 unfolding port_piece
@@ -119,9 +110,9 @@ address-piece : (v : List ℕ) → Good SmallAddress (address_piece v)
 unfolding address_piece
 address-piece v = by (address_of v) refl
   where
-    by : (x : AddressRead) → address_of v ≡ x → Good SmallAddress (address_read x)
-    by (AddressRead.Is a) e = within-small a.kind (address-within v a e)
-    by AddressRead.Not e = tt
+    by : (x : Option Address) → address_of v ≡ x → Good SmallAddress (address_read x)
+    by (Some a) e = within-small a.kind (address-within v a e)
+    by None e = tt
 
 address-entries : (ps : List (List ℕ)) → SmallAddresses (entries_of (map address_piece ps))
 unfolding entries_of

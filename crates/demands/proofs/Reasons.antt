@@ -14,12 +14,13 @@ use lib.ListN.{length, get_or}
 use Rattle.byte.specs.Byte.{pick}
 use Rattle.names.specs.Find.{word_number}
 use Rattle.split.specs.Split.{split}
-use Rattle.number.specs.declared.Number.{Number}
+use Rattle.std.specs.Prelude.{Option, Some, None, Result, Ok, Err, ⊤}
+use Rattle.number.specs.declared.NumberError.{NumberError}
 use Rattle.number.specs.Number.{unsigned_of}
-use Rattle.address.specs.declared.AddressRead.{AddressRead}
+use Rattle.address.specs.declared.Address.{Address}
 use Rattle.address.specs.Address.{address_of}
 use Rattle.lists.specs.declared.Fault.{Fault}
-use Rattle.lists.specs.Fault.{is_fine, number_of}
+use Rattle.lists.specs.Fault.{fault_number, is_fine, number_of}
 use Rattle.lists.specs.Append.{Piece, good, bad, Slots, more, pushed, append, append_from, pieces_from, listed}
 use Rattle.lists.specs.Lists.{port_read, port_piece, address_read, address_piece, host_piece, port_slots, address_slots, host_slots, host_pushed, ports_after, addresses_after, hosts_after, host_after}
 use Rattle.config.specs.declared.Config.{Config}
@@ -29,21 +30,21 @@ use Rattle.setting.specs.Setting.{Setting, kind_of}
 use Rattle.uri_keys.proofs.Keys.{setting-most}
 use Rattle.demands.specs.Giving.{Reason, unknown-key, value, hosts, one-host, hostaddrs, ports}
 
-abbrev Given : Config → List ℕ → ℕ → Fault → Type 0
+abbrev Given : Config → List ℕ → ℕ → Result ⊤ Fault → Type 0
 Given c v kind f = is_fine f ≡ false → Reason c v kind (number_of f)
 
 -- a piece that is bad has a fault that passes a test
-abbrev Bad : {A : Type 0} → (Fault → Type 0) → Piece A → Type 0
+abbrev Bad : {A : Type 0} → (Result ⊤ Fault → Type 0) → Piece A → Type 0
 Bad P (good a) = Unit
-Bad P (bad f) = P f
+Bad P (bad f) = P (Err f)
 
 -- and so has a list that its pieces are appended to: it is full only where the used places and the pieces, total at most, are more than sixteen
-module _ {A : Type 0} (P : Fault → Type 0) (full : Fault) (total : ℕ) (no : P Fault.NoFault) (all : 16 < total → P full) where
+module _ {A : Type 0} (P : Result ⊤ Fault → Type 0) (full : Fault) (total : ℕ) (no : P (Ok tt)) (all : 16 < total → P (Err full)) where
   append-fault : (s : Slots A) (p : Piece A) → Bad P p → s.count + 1 ≤ total → P (append full s p).fault
   append-fault s (bad f) h l = h
   append-fault s (good a) h l = by (ltb s.count 16) refl
     where
-      by : (k : Bool) → ltb s.count 16 ≡ k → P (pick k (more Fault.NoFault (pushed s a)) (more full s)).fault
+      by : (k : Bool) → ltb s.count 16 ≡ k → P (pick k (more (Ok tt) (pushed s a)) (more (Err full) s)).fault
       by true e = no
       by false e = all (omega (arith, ltb-false s.count 16 e))
 
@@ -51,7 +52,7 @@ module _ {A : Type 0} (P : Fault → Type 0) (full : Fault) (total : ℕ) (no : 
   append-count s (bad f) = omega arith
   append-count s (good a) = by (ltb s.count 16)
     where
-      by : (k : Bool) → (pick k (more Fault.NoFault (pushed s a)) (more full s)).slots.count ≤ s.count + 1
+      by : (k : Bool) → (pick k (more (Ok tt) (pushed s a)) (more (Err full) s)).slots.count ≤ s.count + 1
       by true = omega arith
       by false = omega arith
 
@@ -84,35 +85,35 @@ above kind a b = (omega arith, b, λ (e : kind ≡ 8). omega (arith, e))
 
 -- faults of kinds that are counted from k on
 infixr 5 ◌⊗◌
-data Each (P : ℕ → Fault → Type 0) : ℕ → List Fault → Type 0 where
+data Each (P : ℕ → Result ⊤ Fault → Type 0) : ℕ → List (Result ⊤ Fault) → Type 0 where
   done : {k : ℕ} → Each P k []
-  ◌⊗◌ : {k : ℕ} {f : Fault} {fs : List Fault} → P k f → Each P (suc k) fs → Each P k (f ∷ fs)
+  ◌⊗◌ : {k : ℕ} {f : Result ⊤ Fault} {fs : List (Result ⊤ Fault)} → P k f → Each P (suc k) fs → Each P k (f ∷ fs)
 
-look : {P : ℕ → Fault → Type 0} {k : ℕ} {fs : List Fault} → Each P k fs → (i : ℕ) → i < length fs → P (k + i) (get_or fs i Fault.UnknownKey)
+look : {P : ℕ → Result ⊤ Fault → Type 0} {k : ℕ} {fs : List (Result ⊤ Fault)} → Each P k fs → (i : ℕ) → i < length fs → P (k + i) (get_or fs i (Err Fault.UnknownKey))
 look done i l = absurd (omega arith)
 look {P} {k} (◌⊗◌ {f = f} e es) zero l = subst (λ (n : ℕ). P n f) (sym (add-zero k)) e
 look {P} {k} (◌⊗◌ {fs = fs} e es) (suc i) l =
     let m : suc k + i ≡ k + suc i = omega arith in
-    subst (λ (n : ℕ). P n (get_or fs i Fault.UnknownKey)) m (look es i (omega arith))
+    subst (λ (n : ℕ). P n (get_or fs i (Err Fault.UnknownKey))) m (look es i (omega arith))
 
 module _ (c : Config) (v : List ℕ) where
-  fine : (kind : ℕ) → Given c v kind Fault.NoFault
+  fine : (kind : ℕ) → Given c v kind (Ok tt)
   fine kind e = let z : ◌≡◌ {A = ℕ} 0 1 = cc in absurd (omega arith)
 
-  five : (kind : ℕ) → Valued kind → (f : Fault) → number_of f ≡ 5 → Given c v kind f
+  five : (kind : ℕ) → Valued kind → (f : Fault) → fault_number f ≡ 5 → Given c v kind (Err f)
   five kind k f e _ = subst (Reason c v kind) (sym e) (value k.0 k.1 k.2)
 
   word-fault : (kind : ℕ) → Valued kind → (n : ℕ) → Given c v kind (word_fault n)
   word-fault kind h n = by (eqb n 0)
     where
-      by : (k : Bool) → Given c v kind (pick k Fault.Word Fault.NoFault)
+      by : (k : Bool) → Given c v kind (pick k (Err Fault.Word) (Ok tt))
       by true = five kind h Fault.Word refl
       by false = fine kind
 
-  number-fault : (kind : ℕ) → Valued kind → (n : Number) → Given c v kind (number_fault n)
-  number-fault kind h (Number.Is n) = fine kind
-  number-fault kind h Number.Form = five kind h Fault.Form refl
-  number-fault kind h Number.Range = five kind h Fault.Range refl
+  number-fault : (kind : ℕ) → Valued kind → (n : Result ℕ NumberError) → Given c v kind (number_fault n)
+  number-fault kind h (Ok n) = fine kind
+  number-fault kind h (Err NumberError.Form) = five kind h Fault.Form refl
+  number-fault kind h (Err NumberError.Range) = five kind h Fault.Range refl
 
   host-piece : (kind at : ℕ) (w : List ℕ) → Bad (Given c v kind) (host_piece at w)
   unfolding host_piece
@@ -122,19 +123,19 @@ module _ (c : Config) (v : List ℕ) where
   unfolding address_piece
   address-piece at w = by (address_of w)
     where
-      by : (a : AddressRead) → Bad (Given c v 9) (address_read a)
-      by (AddressRead.Is a) = tt
-      by AddressRead.Not = five 9 (above 9 (omega arith) (omega arith)) Fault.NoAddress refl
+      by : (a : Option Address) → Bad (Given c v 9) (address_read a)
+      by (Some a) = tt
+      by None = five 9 (above 9 (omega arith) (omega arith)) Fault.NoAddress refl
 
   port-piece : (at : ℕ) (w : List ℕ) → Bad (Given c v 10) (port_piece w)
   unfolding port_piece
   port-piece at w = by (eqb (length w) 0) (unsigned_of 65535 w)
     where
-      by : (k : Bool) (n : Number) → Bad (Given c v 10) (pick k (good 5432) (port_read n))
+      by : (k : Bool) (n : Result ℕ NumberError) → Bad (Given c v 10) (pick k (good 5432) (port_read n))
       by true n = tt
-      by false (Number.Is n) = tt
-      by false Number.Form = five 10 (above 10 (omega arith) (omega arith)) Fault.Form refl
-      by false Number.Range = five 10 (above 10 (omega arith) (omega arith)) Fault.Range refl
+      by false (Ok n) = tt
+      by false (Err NumberError.Form) = five 10 (above 10 (omega arith) (omega arith)) Fault.Form refl
+      by false (Err NumberError.Range) = five 10 (above 10 (omega arith) (omega arith)) Fault.Range refl
 
   addresses-fault : Given c v 9 (addresses_after c.hostaddr v).fault
   unfolding addresses_after
@@ -191,13 +192,13 @@ module _ (v : List ℕ) (start : ℕ) (c : Config) where
   unfolding fault_of
   kind-reason kind h e =
       let z : 0 + kind ≡ kind = omega arith in
-      subst (λ (n : ℕ). Reason c v n (number_of (get_or (faults v start c) kind Fault.UnknownKey))) z (look each kind (omega arith) e)
+      subst (λ (n : ℕ). Reason c v n (number_of (get_or (faults v start c) kind (Err Fault.UnknownKey)))) z (look each kind (omega arith) e)
 
   -- a setting that can't be applied, of whatever kind
   pub reason : (x : Setting) → is_fine (applied (kind_of x) v start c).fault ≡ false → Reason c v (kind_of x) (number_of (applied (kind_of x) v start c).fault)
   reason x e =
       let f : (applied (kind_of x) v start c).fault ≡ fault_of (kind_of x) v start c = applied-fault (kind_of x) v start c in
-      subst (λ (y : Fault). Reason c v (kind_of x) (number_of y)) (sym f) (kind-reason (kind_of x) (setting-most x) (ap is_fine (sym f) ∙ e))
+      subst (λ (y : Result ⊤ Fault). Reason c v (kind_of x) (number_of y)) (sym f) (kind-reason (kind_of x) (setting-most x) (ap is_fine (sym f) ∙ e))
 
 -- what a reason tells of the kind and the number
 pub reason-five : {c : Config} {v : List ℕ} {kind number : ℕ} → Reason c v kind number → number ≡ 5 → (1 ≤ kind) × (kind ≤ 19)

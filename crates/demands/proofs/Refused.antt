@@ -9,6 +9,7 @@ use native.Mathlib.Omega.{arith}
 use lib.ListN.{length, take, drop, replicate}
 use borrow.Author.Tests.{ne_eqb, eq-eqb}
 use Rattle.setting.specs.Setting.{kind_of, value_of}
+use Rattle.std.specs.Prelude.{Result, ⊤}
 use Rattle.lists.specs.declared.Fault.{Fault}
 use Rattle.lists.specs.Fault.{is_fine, number_of, key_of}
 use Rattle.outcome.specs.declared.Answer.{Answer}
@@ -21,16 +22,16 @@ use Rattle.demands.proofs.Answering.{gives, answers}
 use Rattle.demands.proofs.Numbers.{fault-low, end_low, one, two, three, zero, fault, end}
 use Rattle.demands.proofs.Buffer.{left-fails, left-refused, left-accepted, left-not-utf8}
 
-key-none : (f : Fault) (kind : ℕ) → (number_of f ≡ 5 → ⊥) → key_of f kind ≡ 0
+key-none : (f : Result ⊤ Fault) (kind : ℕ) → (number_of f ≡ 5 → ⊥) → key_of f kind ≡ 0
 key-none f kind h = rw (ne_eqb (number_of f) 5 h)
 
-key-five : (f : Fault) (kind : ℕ) → number_of f ≡ 5 → key_of f kind ≡ kind
+key-five : (f : Result ⊤ Fault) (kind : ℕ) → number_of f ≡ 5 → key_of f kind ≡ kind
 key-five f kind h = rw (eq-eqb (number_of f) 5 h)
 
 -- the first that can't be applied, by its kind
 first-reason : (s : List ℕ) (f : Fails s) → Reason f.config (value_of f.setting) (kind_of f.setting) (number_of f.fault)
 first-reason s f =
-    subst (λ (x : Fault). Reason f.config (value_of f.setting) (kind_of f.setting) (number_of x)) f.has
+    subst (λ (x : Result ⊤ Fault). Reason f.config (value_of f.setting) (kind_of f.setting) (number_of x)) f.has
     (reason (value_of f.setting) (length (joined f.before)) f.config f.setting (ap is_fine f.has ∙ f.fails))
 
 -- 4 is given for an unknown key, and for nothing else

@@ -13,14 +13,14 @@ use Rattle.byte.specs.Put.{put}
 use Rattle.byte.proofs.Laws.{in_between}
 use Rattle.utf8.specs.Utf8.{well_formed}
 use Rattle.setting.specs.Setting.{Setting, kind_of, value_of}
+use Rattle.std.specs.Prelude.{Result, ⊤}
 use Rattle.lists.specs.declared.Fault.{Fault}
 use Rattle.lists.specs.Fault.{is_fine, number_of, key_of}
 use Rattle.config.specs.declared.Config.{Config}
 use Rattle.config.specs.Config.{defaults}
 use Rattle.config.specs.Values.{shown}
 use Rattle.config.specs.Sound.{sound}
-use Rattle.apply.specs.declared.Applied.{Applied}
-use Rattle.apply.specs.Apply.{after, applied}
+use Rattle.apply.specs.Apply.{Applied, after, applied}
 use Rattle.apply.proofs.Laws.{applied-fault, applied-fine}
 use Rattle.view.specs.Given.{refused as refused_by, Told, plain, tell_refusal, told}
 use Rattle.view.proofs.Seen.{In, defaults-in, in_on, in-sound, shown-grows, Packs, seen-fault, seen, still-in}
@@ -110,7 +110,7 @@ tells-outcome (s ∷ ss) end n b c h = by (is_fine (refused_by (kind_of s) (valu
         (rest (b ++ kept s) (after (kind_of s) (value_of s) (length b) c) (still-in b (value_of s) (kept s) (kind_of s) c h (packs s) e))
     by false e rest =
         tells_as _ _ _ _
-        (outcome-off c b n end s ss (ap is_fine fault ∙ e) ∙ ap (λ (f : Fault). refused (number_of f) (key_of f (kind_of s)) n) fault)
+        (outcome-off c b n end s ss (ap is_fine fault ∙ e) ∙ ap (λ (f : Result ⊤ Fault). refused (number_of f) (key_of f (kind_of s)) n) fault)
         (told-off (shown b c) n end s ss e)
         (tells-refusal (number_of (refused_by (kind_of s) (value_of s) (shown b c))) (key_of (refused_by (kind_of s) (value_of s) (shown b c)) (kind_of s)) n)
 

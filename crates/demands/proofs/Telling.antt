@@ -14,7 +14,9 @@ use Rattle.utf8.specs.Utf8.{well_formed}
 use Rattle.config.specs.declared.Config.{Config}
 use Rattle.config.specs.Values.{Values, shown}
 use Rattle.config.specs.Sound.{sound}
-use Rattle.report.specs.declared.Answer.{Answer as Told}
+use Rattle.std.specs.Prelude.{Result, Err}
+use Rattle.report.specs.declared.ReportError.{ReportError}
+use Rattle.report.specs.declared.ReportError.TheVariants.{Short}
 use Rattle.report.specs.Report.{report}
 use Rattle.report.specs.Answer.{reported, reported_into}
 use Rattle.report.proofs.Exactly.{told-length, stands-in-front}
@@ -47,13 +49,13 @@ module _ (b : List ℕ) (c : Config) (p : List ℕ) (h : sound (length b) c ≡ 
   abbrev whole : List ℕ
   whole = report (shown b c)
 
-  short : leb (length whole) (length p) ≡ false → reported b c (length p) ≡ Told.Short
+  short : leb (length whole) (length p) ≡ false → reported b c (length p) ≡ Err Short
   unfolding reported
   short e = rw (h, e)
 
   reads : (t : Bool) → leb (length whole) (length p) ≡ t → report_in (reported b c (length p)) (reported_into b c p) ≡ pick t whole []
   reads true e = rw (told-length b c p h (leb-true _ _ e)) (stands-in-front b c p h (leb-true _ _ e))
-  reads false e = ap (λ (x : Told). report_in x (reported_into b c p)) (short e)
+  reads false e = ap (λ (x : Result ℕ ReportError). report_in x (reported_into b c p)) (short e)
 
   written_is : report_in (reported b c (length p)) (reported_into b c p) ≡ pick (leb (length whole) (length p)) whole []
   written_is = reads (leb (length whole) (length p)) refl

@@ -1,6 +1,6 @@
--- What a text gives, as document 01 says it: which settings can be applied, which setting is the first that can't, and the answer in each case.
+-- What a text gives: which settings can be applied, which setting is the first that can't, and the answer in each case.
 -- Assumes nothing.
-use Rattle.std.specs.Prelude.{ℕ, ◌+◌, ◌≤◌, ◌<◌, ◌≡◌, true, false, List, [], ◌∷◌, ◌++◌, length}
+use Rattle.std.specs.Prelude.{ℕ, ◌+◌, ◌≤◌, ◌<◌, ◌≡◌, true, false, List, [], ◌∷◌, ◌++◌, length, Result, Ok, ⊤}
 use Rattle.utf8.specs.Utf8.{well_formed}
 use Rattle.split.specs.Split.{split}
 use Rattle.setting.specs.Setting.{Setting, kind_of, value_of}
@@ -21,7 +21,7 @@ joined (x ∷ xs) = kept x ++ joined xs
 pub data Applies : List ℕ → Config → List Setting → Config → Type 0 where
   none : {b : List ℕ} {c : Config} → Applies b c [] c
   next : {b : List ℕ} {c d : Config} {x : Setting} {xs : List Setting}
-      → (applied (kind_of x) (value_of x) (length b) c).fault ≡ Fault.NoFault
+      → (applied (kind_of x) (value_of x) (length b) c).fault ≡ Ok tt
       → Applies (b ++ kept x) (applied (kind_of x) (value_of x) (length b) c).config xs d
       → Applies b c (x ∷ xs) d
 
@@ -33,7 +33,7 @@ pub record FailsFrom (b : List ℕ) (c : Config) (xs : List Setting) : Type 0 wh
   pub splits : xs ≡ before ++ (setting ∷ behind)
   pub config : Config
   pub applies : Applies b c before config
-  pub fault : Fault
+  pub fault : Result ⊤ Fault
   pub has : (applied (kind_of setting) (value_of setting) (length (b ++ joined before)) config).fault ≡ fault
   pub fails : is_fine fault ≡ false
 

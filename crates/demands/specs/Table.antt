@@ -1,14 +1,13 @@
 -- The texts at the edges that document 01 marks P: what each gives, and what it leaves in a decode buffer that is two bytes longer and held sevens.
 -- Assumes nothing.
-use Rattle.std.specs.Prelude.{ℕ, ◌+◌, ◌-◌, true, List, [], ◌∷◌, ◌++◌, length, replicate}
+use Rattle.std.specs.Prelude.{ℕ, ◌+◌, ◌-◌, List, [], ◌∷◌, ◌++◌, length, replicate, Option, Some}
 use Prim.Native.String.{String}
 use Rattle.byte.specs.Ascii.{bytes}
+use Rattle.lists.specs.declared.Place.{Place}
 use Rattle.lists.specs.declared.HostKind.{HostKind}
 use Rattle.lists.specs.declared.Host.{Host}
 use Rattle.lists.specs.declared.Hosts.{Hosts}
 use Rattle.lists.specs.declared.Ports.{Ports}
-use Rattle.config.specs.declared.Text.{Text}
-use Rattle.config.specs.declared.Seconds.{Seconds}
 use Rattle.config.specs.declared.Config.{Config}
 use Rattle.config.specs.Config.{nowhere, unset, never, defaults}
 use Rattle.outcome.specs.declared.Answer.{Answer}
@@ -28,8 +27,8 @@ unfoldable pub run : String → Given
 run t = record { answers = answer (bytes t) (length (bytes t) + 2); leaves = left (bytes t) (replicate (length (bytes t) + 2) 7) }
 
 -- a text, a host and lists that are set, and a record with the defaults for all else
-abbrev pub set : ℕ → ℕ → Text
-set start len = record { set = true; place = record { start = start; len = len } }
+abbrev pub set : ℕ → ℕ → Option Place
+set start len = Some (record { start = start; len = len })
 
 abbrev pub tcp : ℕ → ℕ → Host
 tcp start len = record { kind = HostKind.Tcp (record { start = start; len = len }) }
@@ -40,7 +39,7 @@ hosts hs = record { list = hs ++ replicate (16 - length hs) (record { kind = Hos
 abbrev pub ports : List ℕ → Ports
 ports ps = record { list = ps ++ replicate (16 - length ps) 0; count = length ps }
 
-abbrev pub config : Text → Text → List Host → List ℕ → Seconds → Config
+abbrev pub config : Option Place → Option Place → List Host → List ℕ → Option ℕ → Config
 config user dbname hs ps timeout =
     record {
       user = user;
@@ -116,7 +115,7 @@ table =
     accepts "user='a'dbname=b" 2 (config (set 0 1) (set 1 1) [] [] never) "ab" ∷
     accepts "port=65535" 1 (config unset unset [] (65535 ∷ []) never) "" ∷
     refuses "port=65536" 5 10 0 ∷
-    accepts "connect_timeout=5 connect_timeout=0" 2 (config unset unset [] [] (record { set = true; seconds = 5 })) "" ∷
+    accepts "connect_timeout=5 connect_timeout=0" 2 (config unset unset [] [] (Some 5)) "" ∷
     accepts "postgres://," 4 (config unset unset (tcp 0 0 ∷ tcp 0 0 ∷ []) (5432 ∷ 5432 ∷ []) never) "" ∷
     accepts "postgres://@h" 3 (config (set 0 0) unset (tcp 0 1 ∷ []) (5432 ∷ []) never) "h" ∷
     accepts "postgres:///?host=a,b" 1 (config unset unset (tcp 0 3 ∷ []) [] never) "a,b" ∷

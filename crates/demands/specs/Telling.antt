@@ -1,12 +1,11 @@
 -- Demand 3 over what the two public functions hand back for two texts: answers, and what stands in the memory that was lent.
 -- Assumes nothing.
-use Rattle.std.specs.Prelude.{ℕ, ◌≤◌, ◌≡◌, List, [], ◌↔◌, length, take}
+use Rattle.std.specs.Prelude.{ℕ, ◌≤◌, ◌≡◌, List, [], ◌↔◌, length, take, Result, Ok, Err}
 use Rattle.config.specs.Values.{Values, shown}
 use Rattle.view.specs.Hidden.{hidden}
 use Rattle.outcome.specs.declared.Answer as Read
 use Rattle.outcome.specs.Outcome.{reading, answer, left}
-use Rattle.report.specs.declared.Answer as Report
-use Rattle.report.specs.declared.Answer.TheVariants.{Length, Short, Unsound}
+use Rattle.report.specs.declared.ReportError.{ReportError}
 use Rattle.report.specs.Report.{report}
 use Rattle.report.specs.Answer.{reported, reported_into}
 use Rattle.demands.specs.Blind.{Readable, Alike, SameButPassword}
@@ -15,7 +14,7 @@ use Rattle.demands.specs.Blind.{Readable, Alike, SameButPassword}
 pub record Run : Type 0 where
   pub answer : Read.Answer
   pub decode : List ℕ
-  pub report : Report.Answer
+  pub report : Result ℕ ReportError
   pub buffer : List ℕ
 
 -- what `read` and then `report` promise for a text, a decode buffer and a report buffer
@@ -29,10 +28,9 @@ ran text decode buffer =
     }
 
 -- the report that was written: as many bytes as the answer tells, none for a refusal
-abbrev pub report_in : Report.Answer → List ℕ → List ℕ
-report_in (Length n) b = take n b
-report_in Short b = []
-report_in Unsound b = []
+abbrev pub report_in : Result ℕ ReportError → List ℕ → List ℕ
+report_in (Ok n) b = take n b
+report_in (Err e) b = []
 
 abbrev pub report_of : Run → List ℕ
 report_of r = report_in r.report r.buffer
