@@ -1,5 +1,6 @@
 -- What the entries for C hand back: 16 exactly where the report buffer is too short, 17 never.
 -- Assumes nothing.
+use Rattle.std.specs.Prelude.{Ok, Err}
 use Prim.Native.Nat.{ℕ, ◌+◌, ◌<◌, ◌≤◌}
 use mathlib.Core.Path.{◌≡◌, refl, sym, ap, subst, ◌∙◌}
 use mathlib.Core.Bool.{Bool, true, false}
@@ -21,7 +22,7 @@ use Rattle.view.proofs.Seen.{In, defaults-in, in_on, in-sound, shown-grows}
 use Rattle.outcome.specs.declared.Answer.{Answer}
 use Rattle.outcome.specs.Outcome.{outcome_of, answer, left}
 use Rattle.outcome.proofs.Answers.{answered}
-use Rattle.report.specs.declared.Answer.{Answer as Reported}
+use Rattle.report.specs.declared.ReportError.TheVariants.{Short}
 use Rattle.report.specs.Answer.{reported, reported_into}
 use Rattle.entry.specs.Entry.{told, used, report_left, kept, entry, entry_left}
 use Rattle.answers.proofs.Bounds.{small}
@@ -98,7 +99,7 @@ module _ (s d : List ℕ) where
     kept-sound : sound (length (kept s d)) (given s d) ≡ true
     kept-sound = in-sound (length (kept s d)) (given s d) kept-inside
 
-    entry-told : (room : ℕ) → entry s d room ≡ told (pick (leb few room) (Reported.Length few) Reported.Short)
+    entry-told : (room : ℕ) → entry s d room ≡ told (pick (leb few room) (Ok few) (Err Short))
     unfolding entry reported
     entry-told room = rw (eq-eqb (number s d) 0 is, kept-sound, kept-shows, used-same few room (omega (arith, report-fits s d)))
 
@@ -107,10 +108,10 @@ module _ (s d : List ℕ) where
     entry-leaves r = rw (eq-eqb (number s d) 0 is, kept-sound, kept-shows) (written-used r (reports s d) (omega (arith, report-fits s d)))
 
     entry-long : (room : ℕ) → few ≤ room → entry s d room ≡ few
-    entry-long room h = entry-told room ∙ ap (λ (t : Bool). told (pick t (Reported.Length few) Reported.Short)) (le-leb few room h)
+    entry-long room h = entry-told room ∙ ap (λ (t : Bool). told (pick t (Ok few) (Err Short))) (le-leb few room h)
 
     entry-short : (room : ℕ) → room < few → entry s d room ≡ 1000016
-    entry-short room h = entry-told room ∙ ap (λ (t : Bool). told (pick t (Reported.Length few) Reported.Short)) (lt-leb few room h)
+    entry-short room h = entry-told room ∙ ap (λ (t : Bool). told (pick t (Ok few) (Err Short))) (lt-leb few room h)
 
   entry-refused : (room : ℕ) → (number s d ≡ 0 → ⊥) → entry s d room ≡ 1000000 + number s d
   unfolding entry

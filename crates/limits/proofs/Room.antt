@@ -1,5 +1,6 @@
 -- Theorem 5, its last part: no report of a text is longer than 13,795 bytes.
 -- Assumes nothing.
+use Rattle.std.specs.Prelude.{Ok}
 use Prim.Native.Nat.{ℕ, ◌+◌, ◌≤◌}
 use mathlib.Core.Path.{◌≡◌, refl, sym, ap, subst}
 use mathlib.Core.List.{List, []}
@@ -13,7 +14,6 @@ use Rattle.view.specs.Given.{Told, plain, told}
 use Rattle.view.proofs.Seen.{In, defaults-in, shown-grows}
 use Rattle.outcome.specs.declared.Answer.{Answer}
 use Rattle.outcome.specs.Outcome.{reading, answer, left}
-use Rattle.report.specs.declared.Answer.{Answer as Reported}
 use Rattle.report.specs.Answer.{reported}
 use Rattle.telling.specs.Bound.{shown_bytes, Sized}
 use Rattle.telling.proofs.Bound.{report-bound}
@@ -90,7 +90,7 @@ module _ (s d : List ℕ) where
   pub report-fits : length (reports s d) ≤ report_most
   report-fits = report-bound (shows s d) (sized (left s d) _ _ (given s d) (read-in s d) (shows-within s d)) shown-most
 
-  pub report-enough : (room : ℕ) → report_most ≤ room → reported (left s d) (given s d) room ≡ Reported.Length (length (reports s d))
+  pub report-enough : (room : ℕ) → report_most ≤ room → reported (left s d) (given s d) room ≡ Ok (length (reports s d))
   unfolding reported
   report-enough room h = rw (read-sound s d, le-leb (length (reports s d)) room (omega (arith, report-fits)))
 

@@ -9,13 +9,14 @@ use borrow.Author.Tests.{eq-eqb, ne_eqb, eqb-true, eqb-false}
 use lib.Dec.{eqb}
 use lib.ListN.{length}
 use Rattle.byte.specs.Byte.{pick}
-use Rattle.config.specs.declared.Text.{Text}
+use Rattle.std.specs.Prelude.{Option, Some, None}
+use Rattle.lists.specs.declared.Place.{Place}
 use Rattle.config.specs.declared.Config.{Config}
 use Rattle.config.specs.Config.{unset}
-use Rattle.config.specs.Sound.{place_in, text_in}
+use Rattle.config.specs.Sound.{text_in}
 use Rattle.view.proofs.Places.{place-ends}
 use Rattle.view.proofs.Seen.{In}
-use Rattle.places.specs.Places.{text_of, nowhere, somewhere, place_of}
+use Rattle.places.specs.Places.{text_of, somewhere, place_of}
 use Rattle.answers.specs.Places.{place}
 use Rattle.limits.specs.Limits.{number, given, Stands}
 use Rattle.limits.proofs.Entries.{inside, number-low, reads}
@@ -34,22 +35,17 @@ text-inside n c key h = by (eqb key 1) (eqb key 2) (eqb key 3) (eqb key 4) (eqb 
     by false false false false true = h.application_name
     by false false false false false = refl
 
-module _ (n : ℕ) (t : Text) where
-  place-told : text_in n t ≡ true → place_of n t ≡ pick t.set (somewhere t.place) 0
+module _ (n : ℕ) (p : Place) (h : text_in n (Some p) ≡ true) where
+  place-told : place_of n (Some p) ≡ somewhere p
   unfolding place_of text_in
-  place-told = by t.set
-    where
-      by : (q : Bool) → pick q (place_in n t.place) true ≡ true
-          → pick q (pick (place_in n t.place) (somewhere t.place) (nowhere 17)) 0 ≡ pick q (somewhere t.place) 0
-      by true e = rw e
-      by false e = refl
+  place-told = rw h
 
-  place-low : text_in n t ≡ true → t.set ≡ true → t.place.start + t.place.len ≤ n
+  place-low : p.start + p.len ≤ n
   unfolding text_in
-  place-low h e = place-ends n t.place (ap (λ (q : Bool). pick q (place_in n t.place) true) (sym e) ∙ h)
+  place-low = place-ends n p h
 
 module _ (s d : List ℕ) (key : ℕ) where
-  abbrev text : Text
+  abbrev text : Option Place
   text = text_of key (given s d)
 
   abbrev here : ℕ
@@ -62,28 +58,33 @@ module _ (s d : List ℕ) (key : ℕ) where
   unfolding place
   place-refused not = rw (ne_eqb (number s d) 0 not)
 
-  place-given : number s d ≡ 0 → here ≡ pick text.set (somewhere text.place) 0
+  place-given : number s d ≡ 0 → here ≡ place_of (length s) text
   unfolding place
-  place-given is = rw (eq-eqb (number s d) 0 is) (place-told (length s) text text-in)
+  place-given is = rw (eq-eqb (number s d) 0 is)
 
-  place-unset : number s d ≡ 0 → text.set ≡ false → here ≡ 0
+  place-unset : number s d ≡ 0 → text ≡ None → here ≡ 0
+  unfolding place_of
   place-unset is e = place-given is ∙ rw e
 
-  place_set : number s d ≡ 0 → text.set ≡ true → here ≡ somewhere text.place
-  place_set is e = place-given is ∙ rw e
+  module _ (p : Place) (is : number s d ≡ 0) (e : text ≡ Some p) where
+    in-text : text_in (length s) (Some p) ≡ true
+    in-text = ap (text_in (length s)) (sym e) ∙ text-in
 
-  place_inside : number s d ≡ 0 → text.set ≡ true → text.place.start + text.place.len ≤ length s
-  place_inside is e = place-low (length s) text text-in e
+    place_set : here ≡ somewhere p
+    place_set = place-given is ∙ ap (place_of (length s)) e ∙ place-told (length s) p in-text
+
+    place_inside : p.start + p.len ≤ length s
+    place_inside = place-low (length s) p in-text
 
   never-outside : here ≡ 2 ^ 63 + 17 → ⊥
-  never-outside q = by (eqb (number s d) 0) refl text.set refl
+  never-outside q = by (eqb (number s d) 0) refl text refl
     where
-      by : (t : Bool) → eqb (number s d) 0 ≡ t → (u : Bool) → text.set ≡ u → ⊥
+      by : (t : Bool) → eqb (number s d) 0 ≡ t → (u : Option Place) → text ≡ u → ⊥
       by false e u f = omega (arith, number-low s d, place-refused (eqb-false (number s d) 0 e), q)
-      by true e true f =
+      by true e (Some p) f =
           let is = eqb-true (number s d) 0 e in
-          omega (arith, (reads s d is).short, place_inside is f, place_set is f, q)
-      by true e false f = omega (arith, place-unset (eqb-true (number s d) 0 e) f, q)
+          omega (arith, (reads s d is).short, place_inside p is f, place_set p is f, q)
+      by true e None f = omega (arith, place-unset (eqb-true (number s d) 0 e) f, q)
 
   pub stands : Stands s d key
   stands = record { refused = place-refused; unset = place-unset; set = place_set; inside = place_inside; never = never-outside }

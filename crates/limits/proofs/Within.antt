@@ -4,12 +4,12 @@ use Prim.Native.Nat.{ℕ, ◌+◌, ◌-◌, ◌^◌, ◌<◌, ◌≤◌}
 use mathlib.Core.Path.{◌≡◌, refl, sym, subst}
 use mathlib.Core.Bool.{Bool, true, false}
 use mathlib.Core.List.{List, [], ◌∷◌, ◌++◌, map}
-use Rattle.std.specs.Prelude.{Option}
+use Rattle.std.specs.Prelude.{Option, Result, Ok, Err}
 use native.Mathlib.Omega.{arith}
 use lib.Dec.{eqb}
 use lib.ListN.{length, length-append}
 use Rattle.byte.specs.Byte.{pick}
-use Rattle.number.specs.declared.Number.{Number}
+use Rattle.number.specs.declared.NumberError.{NumberError}
 use Rattle.number.specs.Number.{unsigned_of}
 use Rattle.number.proofs.Laws.{unsigned-low}
 use Rattle.split.specs.Split.{split}
@@ -61,10 +61,9 @@ port-small : (v : List ℕ) → SmallPiece (port_piece v)
 unfolding port_piece
 port-small v = by (eqb (length v) 0)
   where
-    read : (n : Number) → unsigned_of 65535 v ≡ n → SmallPiece (port_read n)
-    read (Number.Is n) e = omega (arith, unsigned-low 65535 v n e)
-    read Number.Form e = tt
-    read Number.Range e = tt
+    read : (n : Result ℕ NumberError) → unsigned_of 65535 v ≡ n → SmallPiece (port_read n)
+    read (Ok n) e = omega (arith, unsigned-low 65535 v n e)
+    read (Err x) e = tt
 
     by : (t : Bool) → SmallPiece (pick t (good 5432) (port_read (unsigned_of 65535 v)))
     by true = omega arith
@@ -87,10 +86,9 @@ ports-given false v l h = h
 retries-given : (t : Bool) (v : List ℕ) (o : Option ℕ) → Maybe SmallRetries o → Maybe SmallRetries (pick t (retries_given o (unsigned_of (2 ^ 32 - 1) v)) o)
 retries-given true v o h = read (unsigned_of (2 ^ 32 - 1) v) refl
   where
-    read : (n : Number) → unsigned_of (2 ^ 32 - 1) v ≡ n → Maybe SmallRetries (retries_given o n)
-    read (Number.Is n) e = omega (arith, unsigned-low (2 ^ 32 - 1) v n e)
-    read Number.Form e = h
-    read Number.Range e = h
+    read : (n : Result ℕ NumberError) → unsigned_of (2 ^ 32 - 1) v ≡ n → Maybe SmallRetries (retries_given o n)
+    read (Ok n) e = omega (arith, unsigned-low (2 ^ 32 - 1) v n e)
+    read (Err x) e = h
 retries-given false v o h = h
 
 -- one setting, and all of them

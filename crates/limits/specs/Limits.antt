@@ -1,12 +1,12 @@
 -- What a text's report comes to in bytes, and what the entries for C hand back then.
 -- Assumes nothing.
-use Rattle.std.specs.Prelude.{ℕ, ◌+◌, ◌^◌, ◌<◌, ◌≤◌, ◌≡◌, true, false, List, ◌↔◌, length, Option}
+use Rattle.std.specs.Prelude.{ℕ, ◌+◌, ◌^◌, ◌<◌, ◌≤◌, ◌≡◌, true, List, ◌↔◌, length, Option, Some, None, Ok}
 use Rattle.byte.specs.Put.{written}
 use Rattle.config.specs.declared.Config.{Config}
 use Rattle.config.specs.Values.{HostValue, Values, shown}
 use Rattle.config.specs.Sound.{sound}
 use Rattle.outcome.specs.Outcome.{reading, answer, left}
-use Rattle.report.specs.declared.Answer.{Answer}
+use Rattle.lists.specs.declared.Place.{Place}
 use Rattle.report.specs.Report.{report}
 use Rattle.report.specs.Answer.{reported}
 use Rattle.telling.specs.Bound.{text_bytes, host_bytes}
@@ -48,7 +48,7 @@ module _ (s d : List ℕ) where
     pub bytes : kept_bytes shows ≤ length s
     pub most : length reports ≤ report_most
     -- a report buffer of so many bytes is never refused
-    pub enough : (room : ℕ) → report_most ≤ room → reported (left s d) given room ≡ Answer.Length (length reports)
+    pub enough : (room : ℕ) → report_most ≤ room → reported (left s d) given room ≡ Ok (length reports)
 
   -- nyimbrak_read: "the report's length, or 1,000,000 plus the refusal", of a report buffer of any length
   pub record Enters : Type 0 where
@@ -70,9 +70,9 @@ module _ (s d : List ℕ) where
   -- nyimbrak_place, of any key
   pub record Stands (key : ℕ) : Type 0 where
     pub refused : (number ≡ 0 → ⊥) → place s (length d) key ≡ 2 ^ 63 + number
-    pub unset : number ≡ 0 → (text_of key given).set ≡ false → place s (length d) key ≡ 0
-    pub set : number ≡ 0 → (text_of key given).set ≡ true → place s (length d) key ≡ somewhere (text_of key given).place
+    pub unset : number ≡ 0 → text_of key given ≡ None → place s (length d) key ≡ 0
+    pub set : (p : Place) → number ≡ 0 → text_of key given ≡ Some p → place s (length d) key ≡ somewhere p
     -- a start and a length that 16 bits each hold, inside the bytes up to the text's length
-    pub inside : number ≡ 0 → (text_of key given).set ≡ true → (text_of key given).place.start + (text_of key given).place.len ≤ length s
+    pub inside : (p : Place) → number ≡ 0 → text_of key given ≡ Some p → p.start + p.len ≤ length s
     -- 17 never
     pub never : place s (length d) key ≡ 2 ^ 63 + 17 → ⊥

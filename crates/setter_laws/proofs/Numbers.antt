@@ -1,5 +1,6 @@
 -- When a setter is refused, with which number, and that it changes nothing then.
 -- Assumes nothing.
+use Rattle.std.specs.Prelude.{Ok, Err}
 use Prim.Native.Nat.{ℕ, ◌<◌, ◌≤◌}
 use mathlib.Core.Path.{◌≡◌, refl, sym, ◌∙◌}
 use mathlib.Core.Bool.{Bool, true, false, ◌&&◌}
@@ -27,7 +28,7 @@ address-number : (a : Addresses) (x : Address) → number_of (address_kept a x).
 unfolding address_kept
 address-number a x = by (ltb a.count 16)
   where
-    by : (t : Bool) → number_of (more_addresses (pick t (more Fault.NoFault (pushed (address_slots a) x)) (more Fault.ManyHostaddrs (address_slots a)))).fault ≡ pick t 0 14
+    by : (t : Bool) → number_of (more_addresses (pick t (more (Ok tt) (pushed (address_slots a) x)) (more (Err Fault.ManyHostaddrs) (address_slots a)))).fault ≡ pick t 0 14
     by true = refl
     by false = refl
 
@@ -35,7 +36,7 @@ port-number : (p : Ports) (x : ℕ) → number_of (port_kept p x).fault ≡ pick
 unfolding port_kept
 port-number p x = by (ltb p.count 16)
   where
-    by : (t : Bool) → number_of (more_ports (pick t (more Fault.NoFault (pushed (port_slots p) x)) (more Fault.ManyPorts (port_slots p)))).fault ≡ pick t 0 15
+    by : (t : Bool) → number_of (more_ports (pick t (more (Ok tt) (pushed (port_slots p) x)) (more (Err Fault.ManyPorts) (port_slots p)))).fault ≡ pick t 0 15
     by true = refl
     by false = refl
 
@@ -43,7 +44,7 @@ room-number : (key : ℕ) (v : Value) (c : Config) → number_of (room key v c) 
 unfolding room
 room-number key v c = by (eqb key 9) (eqb key 10)
   where
-    by : (k l : Bool) → number_of (pick k (address_kept c.hostaddr v.address).fault (pick l (port_kept c.port v.number).fault Fault.NoFault))
+    by : (k l : Bool) → number_of (pick k (address_kept c.hostaddr v.address).fault (pick l (port_kept c.port v.number).fault (Ok tt)))
         ≡ pick k (pick (ltb c.hostaddr.count 16) 0 14) (pick l (pick (ltb c.port.count 16) 0 15) 0)
     by true l = address-number c.hostaddr v.address
     by false true = port-number c.port v.number

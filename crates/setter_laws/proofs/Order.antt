@@ -1,5 +1,6 @@
 -- Two setters of different keys may come in either order; a word or a number set twice is the last one.
 -- Assumes nothing.
+use Rattle.std.specs.Prelude.{Ok, Err, Some}
 use Prim.Native.Nat.{ℕ, ◌+◌}
 use mathlib.Core.Path.{◌≡◌, refl, sym, ap, ◌∙◌}
 use mathlib.Core.Bool.{Bool, true, false}
@@ -22,7 +23,7 @@ addresses-counted : (a : Addresses) (x : Address) → leb (address_kept a x).add
 unfolding address_kept
 addresses-counted a x = by (ltb a.count 16) refl
   where
-    by : (t : Bool) → ltb a.count 16 ≡ t → leb (more_addresses (pick t (more Fault.NoFault (pushed (address_slots a) x)) (more Fault.ManyHostaddrs (address_slots a)))).addresses.count 16 ≡ leb a.count 16
+    by : (t : Bool) → ltb a.count 16 ≡ t → leb (more_addresses (pick t (more (Ok tt) (pushed (address_slots a) x)) (more (Err Fault.ManyHostaddrs) (address_slots a)))).addresses.count 16 ≡ leb a.count 16
     by true e = let l = ltb-true a.count 16 e in le-leb (a.count + 1) 16 (omega arith) ∙ sym (le-leb a.count 16 (omega arith))
     by false e = refl
 
@@ -30,7 +31,7 @@ ports-counted : (p : Ports) (x : ℕ) → leb (port_kept p x).ports.count 16 ≡
 unfolding port_kept
 ports-counted p x = by (ltb p.count 16) refl
   where
-    by : (t : Bool) → ltb p.count 16 ≡ t → leb (more_ports (pick t (more Fault.NoFault (pushed (port_slots p) x)) (more Fault.ManyPorts (port_slots p)))).ports.count 16 ≡ leb p.count 16
+    by : (t : Bool) → ltb p.count 16 ≡ t → leb (more_ports (pick t (more (Ok tt) (pushed (port_slots p) x)) (more (Err Fault.ManyPorts) (port_slots p)))).ports.count 16 ≡ leb p.count 16
     by true e = let l = ltb-true p.count 16 e in le-leb (p.count + 1) 16 (omega arith) ∙ sym (le-leb p.count 16 (omega arith))
     by false e = refl
 
@@ -82,8 +83,8 @@ module _ (k j : ℕ) (other : k ≡ j → ⊥) (v w : Value) where
   room_apart c =
       rw (
         apart (eqb k 9) (eqb j 9) (differ 9) (λ (a : Addresses). (address_kept a v.address).fault) (address_kept c.hostaddr w.address).addresses c.hostaddr
-            (pick (eqb k 10) (port_kept (pick (eqb j 10) (port_kept c.port w.number).ports c.port) v.number).fault Fault.NoFault),
-        apart (eqb k 10) (eqb j 10) (differ 10) (λ (p : Ports). (port_kept p v.number).fault) (port_kept c.port w.number).ports c.port Fault.NoFault,
+            (pick (eqb k 10) (port_kept (pick (eqb j 10) (port_kept c.port w.number).ports c.port) v.number).fault (Ok tt)),
+        apart (eqb k 10) (eqb j 10) (differ 10) (λ (p : Ports). (port_kept p v.number).fault) (port_kept c.port w.number).ports c.port (Ok tt),
       )
 
   refusal-apart : (c : Config) → refusal k v (changed j w c) ≡ refusal k v c
@@ -104,20 +105,20 @@ module _ (k j : ℕ) (other : k ≡ j → ⊥) (v w : Value) where
         dbname = c.dbname;
         options = c.options;
         application_name = c.application_name;
-        ssl_mode = swapped (eqb k 6) (eqb j 6) (differ 6) (λ _. record { word = v.mode }) (λ _. record { word = w.mode }) c.ssl_mode i;
-        ssl_negotiation = swapped (eqb k 7) (eqb j 7) (differ 7) (λ _. record { word = v.negotiation }) (λ _. record { word = w.negotiation }) c.ssl_negotiation i;
+        ssl_mode = swapped (eqb k 6) (eqb j 6) (differ 6) (λ _. v.mode) (λ _. w.mode) c.ssl_mode i;
+        ssl_negotiation = swapped (eqb k 7) (eqb j 7) (differ 7) (λ _. v.negotiation) (λ _. w.negotiation) c.ssl_negotiation i;
         host = c.host;
         hostaddr = swapped (eqb k 9) (eqb j 9) (differ 9) (λ (a : Addresses). (address_kept a v.address).addresses) (λ (a : Addresses). (address_kept a w.address).addresses) c.hostaddr i;
         port = swapped (eqb k 10) (eqb j 10) (differ 10) (λ (p : Ports). (port_kept p v.number).ports) (λ (p : Ports). (port_kept p w.number).ports) c.port i;
-        connect_timeout = swapped (eqb k 11) (eqb j 11) (differ 11) (λ _. record { set = true; seconds = v.number }) (λ _. record { set = true; seconds = w.number }) c.connect_timeout i;
-        tcp_user_timeout = swapped (eqb k 12) (eqb j 12) (differ 12) (λ _. record { set = true; seconds = v.number }) (λ _. record { set = true; seconds = w.number }) c.tcp_user_timeout i;
+        connect_timeout = swapped (eqb k 11) (eqb j 11) (differ 11) (λ _. Some v.number) (λ _. Some w.number) c.connect_timeout i;
+        tcp_user_timeout = swapped (eqb k 12) (eqb j 12) (differ 12) (λ _. Some v.number) (λ _. Some w.number) c.tcp_user_timeout i;
         keepalives = swapped (eqb k 13) (eqb j 13) (differ 13) (λ _. v.switch) (λ _. w.switch) c.keepalives i;
         keepalives_idle = swapped (eqb k 14) (eqb j 14) (differ 14) (λ _. v.number) (λ _. w.number) c.keepalives_idle i;
-        keepalives_interval = swapped (eqb k 15) (eqb j 15) (differ 15) (λ _. record { set = true; seconds = v.number }) (λ _. record { set = true; seconds = w.number }) c.keepalives_interval i;
-        keepalives_retries = swapped (eqb k 16) (eqb j 16) (differ 16) (λ _. record { set = true; retries = v.number }) (λ _. record { set = true; retries = w.number }) c.keepalives_retries i;
-        target_session_attrs = swapped (eqb k 17) (eqb j 17) (differ 17) (λ _. record { word = v.target }) (λ _. record { word = w.target }) c.target_session_attrs i;
-        channel_binding = swapped (eqb k 18) (eqb j 18) (differ 18) (λ _. record { word = v.binding }) (λ _. record { word = w.binding }) c.channel_binding i;
-        load_balance_hosts = swapped (eqb k 19) (eqb j 19) (differ 19) (λ _. record { word = v.balance }) (λ _. record { word = w.balance }) c.load_balance_hosts i;
+        keepalives_interval = swapped (eqb k 15) (eqb j 15) (differ 15) (λ _. Some v.number) (λ _. Some w.number) c.keepalives_interval i;
+        keepalives_retries = swapped (eqb k 16) (eqb j 16) (differ 16) (λ _. Some v.number) (λ _. Some w.number) c.keepalives_retries i;
+        target_session_attrs = swapped (eqb k 17) (eqb j 17) (differ 17) (λ _. v.target) (λ _. w.target) c.target_session_attrs i;
+        channel_binding = swapped (eqb k 18) (eqb j 18) (differ 18) (λ _. v.binding) (λ _. w.binding) c.channel_binding i;
+        load_balance_hosts = swapped (eqb k 19) (eqb j 19) (differ 19) (λ _. v.balance) (λ _. w.balance) c.load_balance_hosts i;
       }
 
   both_left : (q t : Bool) (c : Config) → left q k v (left t j w c) ≡ left t j w (left q k v c)
@@ -165,27 +166,27 @@ module _ (k : ℕ) (v w : Value) (no_address : k ≡ 9 → ⊥) (no-port : k ≡
         dbname = c.dbname;
         options = c.options;
         application_name = c.application_name;
-        ssl_mode = last (eqb k 6) (record { word = w.mode }) (record { word = v.mode }) c.ssl_mode i;
-        ssl_negotiation = last (eqb k 7) (record { word = w.negotiation }) (record { word = v.negotiation }) c.ssl_negotiation i;
+        ssl_mode = last (eqb k 6) w.mode v.mode c.ssl_mode i;
+        ssl_negotiation = last (eqb k 7) w.negotiation v.negotiation c.ssl_negotiation i;
         host = c.host;
         hostaddr = no_more (eqb k 9) (ne_eqb k 9 no_address) (λ (a : Addresses). (address_kept a w.address).addresses) (address_kept c.hostaddr v.address).addresses c.hostaddr i;
         port = no_more (eqb k 10) (ne_eqb k 10 no-port) (λ (p : Ports). (port_kept p w.number).ports) (port_kept c.port v.number).ports c.port i;
-        connect_timeout = last (eqb k 11) (record { set = true; seconds = w.number }) (record { set = true; seconds = v.number }) c.connect_timeout i;
-        tcp_user_timeout = last (eqb k 12) (record { set = true; seconds = w.number }) (record { set = true; seconds = v.number }) c.tcp_user_timeout i;
+        connect_timeout = last (eqb k 11) (Some w.number) (Some v.number) c.connect_timeout i;
+        tcp_user_timeout = last (eqb k 12) (Some w.number) (Some v.number) c.tcp_user_timeout i;
         keepalives = last (eqb k 13) w.switch v.switch c.keepalives i;
         keepalives_idle = last (eqb k 14) w.number v.number c.keepalives_idle i;
-        keepalives_interval = last (eqb k 15) (record { set = true; seconds = w.number }) (record { set = true; seconds = v.number }) c.keepalives_interval i;
-        keepalives_retries = last (eqb k 16) (record { set = true; retries = w.number }) (record { set = true; retries = v.number }) c.keepalives_retries i;
-        target_session_attrs = last (eqb k 17) (record { word = w.target }) (record { word = v.target }) c.target_session_attrs i;
-        channel_binding = last (eqb k 18) (record { word = w.binding }) (record { word = v.binding }) c.channel_binding i;
-        load_balance_hosts = last (eqb k 19) (record { word = w.balance }) (record { word = v.balance }) c.load_balance_hosts i;
+        keepalives_interval = last (eqb k 15) (Some w.number) (Some v.number) c.keepalives_interval i;
+        keepalives_retries = last (eqb k 16) (Some w.number) (Some v.number) c.keepalives_retries i;
+        target_session_attrs = last (eqb k 17) w.target v.target c.target_session_attrs i;
+        channel_binding = last (eqb k 18) w.binding v.binding c.channel_binding i;
+        load_balance_hosts = last (eqb k 19) w.balance v.balance c.load_balance_hosts i;
       }
     where
       no_more : {A : Type 0} (q : Bool) → q ≡ false → (f : A → A) (new old : A) → pick q (f (pick q new old)) (pick q new old) ≡ pick q (f old) old
       no_more true e f new old = cc
       no_more false e f new old = refl
 
-  roomy : (x : Value) (c : Config) → room k x c ≡ Fault.NoFault
+  roomy : (x : Value) (c : Config) → room k x c ≡ (Ok tt)
   unfolding room
   roomy x c = rw (ne_eqb k 9 no_address, ne_eqb k 10 no-port)
 

@@ -1,5 +1,6 @@
 -- Every record that a host can get has lists of sixteen places, and a setter leaves a sound record sound: the default record, one that was read, and what setters make of them.
 -- Assumes nothing.
+use Rattle.std.specs.Prelude.{Ok, Err}
 use Prim.Native.Nat.{ℕ, ◌+◌, ◌<◌, ◌≤◌}
 use mathlib.Core.Path.{◌≡◌, refl, sym, ap, ◌∙◌}
 use mathlib.Core.Bool.{Bool, true, false, ◌&&◌}
@@ -37,7 +38,7 @@ address-places : (a : Addresses) (x : Address) → length (address_kept a x).add
 unfolding address_kept
 address-places a x = by (ltb a.count 16)
   where
-    by : (t : Bool) → length (more_addresses (pick t (more Fault.NoFault (pushed (address_slots a) x)) (more Fault.ManyHostaddrs (address_slots a)))).addresses.list ≡ length a.list
+    by : (t : Bool) → length (more_addresses (pick t (more (Ok tt) (pushed (address_slots a) x)) (more (Err Fault.ManyHostaddrs) (address_slots a)))).addresses.list ≡ length a.list
     by true = rw length-set
     by false = refl
 
@@ -45,7 +46,7 @@ port-places : (p : Ports) (x : ℕ) → length (port_kept p x).ports.list ≡ le
 unfolding port_kept
 port-places p x = by (ltb p.count 16)
   where
-    by : (t : Bool) → length (more_ports (pick t (more Fault.NoFault (pushed (port_slots p) x)) (more Fault.ManyPorts (port_slots p)))).ports.list ≡ length p.list
+    by : (t : Bool) → length (more_ports (pick t (more (Ok tt) (pushed (port_slots p) x)) (more (Err Fault.ManyPorts) (port_slots p)))).ports.list ≡ length p.list
     by true = rw length-set
     by false = refl
 

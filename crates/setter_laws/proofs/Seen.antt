@@ -1,5 +1,6 @@
 -- A setter that is not refused, and what is shown then: the new value under its key, and every other setting as it was.
 -- Assumes nothing.
+use Rattle.std.specs.Prelude.{Some}
 use Prim.Native.Nat.{ℕ, ◌<◌}
 use mathlib.Core.Path.{◌≡◌, refl, ap, ◌∙◌}
 use mathlib.Core.Bool.{Bool, true, false}
@@ -15,20 +16,11 @@ use Rattle.address.specs.declared.Address.{Address}
 use Rattle.lists.specs.declared.Addresses.{Addresses}
 use Rattle.lists.specs.declared.Ports.{Ports}
 use Rattle.lists.specs.Lists.{address_kept, port_kept}
-use Rattle.config.specs.declared.SslModeWord.{SslModeWord}
-use Rattle.config.specs.declared.SslNegotiationWord.{SslNegotiationWord}
-use Rattle.config.specs.declared.TargetSessionAttrsWord.{TargetSessionAttrsWord}
-use Rattle.config.specs.declared.ChannelBindingWord.{ChannelBindingWord}
-use Rattle.config.specs.declared.LoadBalanceHostsWord.{LoadBalanceHostsWord}
 use Rattle.config.specs.declared.Config.{Config}
-use Rattle.config.specs.Values.{addresses_shown, ports_shown, seconds_shown, retries_shown, shown}
+use Rattle.config.specs.Values.{addresses_shown, ports_shown, shown}
 use Rattle.setters.specs.Setter.{Value, refusal, changed, set}
 use Rattle.setter_laws.specs.Shown.{set_shown}
 use Rattle.setter_laws.proofs.Numbers.{judged}
-
-pick-through : {A B : Type 0} (f : A → B) (q : Bool) (a c : A) → f (pick q a c) ≡ pick q (f a) (f c)
-pick-through f true a c = refl
-pick-through f false a c = refl
 
 -- lists of sixteen places, as every record's are: proofs/Placed
 pub record Placed (c : Config) : Type 0 where
@@ -72,20 +64,20 @@ module _ (b : List ℕ) (key : ℕ) (v : Value) (c : Config) (p : Placed c) (don
         dbname = (shown b c).dbname;
         options = (shown b c).options;
         application_name = (shown b c).application_name;
-        ssl_mode = pick-through (λ (w : SslModeWord). w.word) (eqb key 6) (record { word = v.mode }) c.ssl_mode i;
-        ssl_negotiation = pick-through (λ (w : SslNegotiationWord). w.word) (eqb key 7) (record { word = v.negotiation }) c.ssl_negotiation i;
+        ssl_mode = pick (eqb key 6) v.mode c.ssl_mode;
+        ssl_negotiation = pick (eqb key 7) v.negotiation c.ssl_negotiation;
         host = (shown b c).host;
         hostaddr = addresses-now i;
         port = ports-now i;
-        connect_timeout = pick-through seconds_shown (eqb key 11) (record { set = true; seconds = v.number }) c.connect_timeout i;
-        tcp_user_timeout = pick-through seconds_shown (eqb key 12) (record { set = true; seconds = v.number }) c.tcp_user_timeout i;
+        connect_timeout = pick (eqb key 11) (Some v.number) c.connect_timeout;
+        tcp_user_timeout = pick (eqb key 12) (Some v.number) c.tcp_user_timeout;
         keepalives = pick (eqb key 13) v.switch c.keepalives;
         keepalives_idle = pick (eqb key 14) v.number c.keepalives_idle;
-        keepalives_interval = pick-through seconds_shown (eqb key 15) (record { set = true; seconds = v.number }) c.keepalives_interval i;
-        keepalives_retries = pick-through retries_shown (eqb key 16) (record { set = true; retries = v.number }) c.keepalives_retries i;
-        target_session_attrs = pick-through (λ (w : TargetSessionAttrsWord). w.word) (eqb key 17) (record { word = v.target }) c.target_session_attrs i;
-        channel_binding = pick-through (λ (w : ChannelBindingWord). w.word) (eqb key 18) (record { word = v.binding }) c.channel_binding i;
-        load_balance_hosts = pick-through (λ (w : LoadBalanceHostsWord). w.word) (eqb key 19) (record { word = v.balance }) c.load_balance_hosts i;
+        keepalives_interval = pick (eqb key 15) (Some v.number) c.keepalives_interval;
+        keepalives_retries = pick (eqb key 16) (Some v.number) c.keepalives_retries;
+        target_session_attrs = pick (eqb key 17) v.target c.target_session_attrs;
+        channel_binding = pick (eqb key 18) v.binding c.channel_binding;
+        load_balance_hosts = pick (eqb key 19) v.balance c.load_balance_hosts;
       }
 
   -- the new value is shown, and every other setting as it was

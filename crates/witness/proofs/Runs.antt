@@ -1,4 +1,4 @@
--- From what the two functions answered and left to a run of 01, and so to demand 3.
+-- From what the two functions answered and left to a run, and so to the demand on two texts.
 -- Assumes nothing.
 use Prim.Native.Nat.{ℕ}
 use mathlib.Core.Path.{◌≡◌, sym, subst}
@@ -6,7 +6,8 @@ use mathlib.Core.List.{List}
 use lib.ListN.{length}
 use Rattle.outcome.specs.declared.Answer.{Answer}
 use Rattle.outcome.specs.Outcome.{answer, left}
-use Rattle.report.specs.declared.Answer.{Answer as Told}
+use Rattle.std.specs.Prelude.{Result}
+use Rattle.report.specs.declared.ReportError.{ReportError}
 use Rattle.report.specs.Answer.{reported, reported_into}
 use Rattle.demands.specs.Telling.{Run, ran, DemandThree}
 use Rattle.demands.proofs.Telling.{demand-three}
@@ -15,7 +16,7 @@ use Rattle.witness.specs.Seen.{seen_of, buffer_of, run_of}
 
 -- one text
 module _ (s d : List ℕ) (a : Answer) (d' : List ℕ) (e : a ≡ answer s (length d)) (f : d' ≡ left s d) where
-  pub seen-is : (n : ℕ) (x : Told) → x ≡ reported d' a.config n → record { answer = a; report = x } ≡ seen_of s d n
+  pub seen-is : (n : ℕ) (x : Result ℕ ReportError) → x ≡ reported d' a.config n → record { answer = a; report = x } ≡ seen_of s d n
   seen-is n x g = rw (g, f, e)
 
   pub buffer-is : (p p' : List ℕ) → p' ≡ reported_into d' a.config p → p' ≡ buffer_of s d p

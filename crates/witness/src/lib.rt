@@ -1,4 +1,4 @@
-// Two texts read and reported: what came back meets demand 3 of the mission.
+// Two texts read and reported: what came back meets the demand on two texts (specs of crate demands).
 #![tactic(auto)]
 
 ghost use Rattle.std.specs.Prelude.{◌≡◌, length};
@@ -6,11 +6,13 @@ ghost use Rattle.outcome.specs.Outcome.{left};
 ghost use Rattle.demands.specs.Telling.{DemandThree};
 ghost use Rattle.witness.specs.Seen.{seen_of, buffer_of, run_of};
 
+use report::ReportError;
+
 // What a text gave: the reader's answer, and the report's over its record.
 #[derive(Clone, Copy)]
 pub struct Seen {
     pub answer: outcome::Answer,
-    pub report: report::Answer,
+    pub report: Result<usize, ReportError>,
 }
 
 #[derive(Clone, Copy)]
@@ -26,12 +28,8 @@ pub fn show(text: &[u8], decode: &mut [u8], dst: &mut [u8]) -> Seen
     ensures dst_after { dst.new ≡ buffer_of text.now decode.old dst.old }
 {
     let answer = reader::read(text, decode);
-    let config = answer.config;
-    let report = report::report(config, decode, dst);
-    Seen {
-        answer: answer,
-        report: report,
-    }
+    let report = report::report(answer.config, decode, dst);
+    Seen { answer, report }
 }
 
 // Two texts, each with buffers of its own.
@@ -53,8 +51,5 @@ pub fn show_both(
 {
     let first = show(text, decode, dst);
     let second = show(text2, decode2, dst2);
-    Both {
-        first: first,
-        second: second,
-    }
+    Both { first, second }
 }
