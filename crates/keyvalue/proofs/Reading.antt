@@ -1,5 +1,9 @@
 -- The reading from a place on is what the step there says, and then the reading from the next place on.
 -- Assumes nothing.
+use Rattle.setting.specs.declared.Refusal.TheVariants.{NoSign, KeyAlone, EmptyValue, OpenQuote}
+use Rattle.setting.specs.declared.Refusal.{Refusal}
+use Rattle.setting.specs.Refusal.{refusal_number}
+use Rattle.std.proofs.Common.{Ok, Err, Some, None}
 use mathlib.Core.Path.{◌≡◌, refl, sym, ap, ◌∙◌}
 use mathlib.Core.Bool.{Bool, true, false}
 use mathlib.Core.List.{List, [], ◌∷◌}
@@ -15,10 +19,8 @@ use Rattle.names.specs.Find.{key_number}
 use Rattle.setting.specs.Setting.{Setting, keyed, kind_of, value_of, Reading, ends, follows}
 use Rattle.keyvalue.specs.declared.Key.{Key}
 use Rattle.keyvalue.specs.declared.Raw.{Raw}
-use Rattle.keyvalue.specs.declared.Step.{Step}
-use Rattle.keyvalue.specs.declared.Step.TheVariants.{Done, Refused, Found}
 use Rattle.keyvalue.specs.Scan.{run_from, end_of, part, space_len, key_len, quoted_len, simple_len}
-use Rattle.keyvalue.specs.KeyValue.{unescaped, key_of, raw_at, quoted_at, simple_at, value_at, sign_at, key_at, parameter_at, reads, key_value_from, key_value}
+use Rattle.keyvalue.specs.KeyValue.{Step, clean, broken, pair, unescaped, key_of, raw_at, quoted_at, simple_at, value_at, sign_at, key_at, parameter_at, reads, key_value_from, key_value}
 use Rattle.scan.proofs.Runs.{end-shift}
 use Rattle.keyvalue.proofs.Stands.{stands}
 
@@ -30,9 +32,9 @@ abbrev moved_raw : ℕ → Raw → Raw
 moved_raw at v = record { from = at + v.from; to = at + v.to; len = v.len }
 
 moved : ℕ → Step → Step
-moved at Done = Done
-moved at (Refused n) = Refused n
-moved at (Found key value next) = Found (moved_key at key) (moved_raw at value) (at + next)
+moved at (Ok None) = clean
+moved at (Err r) = broken r
+moved at (Ok (Some p)) = pair (moved_key at p.key) (moved_raw at p.value) (at + p.next)
 
 moved-pick : (at : ℕ) (t : Bool) (p q : Step) → moved at (pick t p q) ≡ pick t (moved at p) (moved at q)
 moved-pick at true p q = refl
@@ -69,17 +71,17 @@ module _ (s : List ℕ) (at : ℕ) where
   unfolding quoted_at moved
   quoted-moved key x =
       let v : Raw = raw_at quoted_len (drop at s) x in
-      ap (λ (r : Raw). pick (leb (length s) r.to) (Refused 9) (Found (moved_key at key) r (r.to + 1))) (raw-moved quoted_len x)
-      ∙ ap (λ (t : Bool). pick t (Refused 9) (Found (moved_key at key) (moved_raw at v) (at + v.to + 1))) (past-moved v.to)
-      ∙ ap (λ (n : ℕ). pick (leb (length (drop at s)) v.to) (Refused 9) (Found (moved_key at key) (moved_raw at v) n)) (add_assoc at v.to 1)
-      ∙ sym (moved-pick at (leb (length (drop at s)) v.to) (Refused 9) (Found key v (v.to + 1)))
+      ap (λ (r : Raw). pick (leb (length s) r.to) (broken OpenQuote) (pair (moved_key at key) r (r.to + 1))) (raw-moved quoted_len x)
+      ∙ ap (λ (t : Bool). pick t (broken OpenQuote) (pair (moved_key at key) (moved_raw at v) (at + v.to + 1))) (past-moved v.to)
+      ∙ ap (λ (n : ℕ). pick (leb (length (drop at s)) v.to) (broken OpenQuote) (pair (moved_key at key) (moved_raw at v) n)) (add_assoc at v.to 1)
+      ∙ sym (moved-pick at (leb (length (drop at s)) v.to) (broken OpenQuote) (pair key v (v.to + 1)))
 
   simple-moved : (key : Key) (x : ℕ) → simple_at s (moved_key at key) (at + x) ≡ moved at (simple_at (drop at s) key x)
   unfolding simple_at moved
   simple-moved key x =
       let v : Raw = raw_at simple_len (drop at s) x in
-      ap (λ (r : Raw). pick (eqb r.len 0) (Refused 8) (Found (moved_key at key) r r.to)) (raw-moved simple_len x)
-      ∙ sym (moved-pick at (eqb v.len 0) (Refused 8) (Found key v v.to))
+      ap (λ (r : Raw). pick (eqb r.len 0) (broken EmptyValue) (pair (moved_key at key) r r.to)) (raw-moved simple_len x)
+      ∙ sym (moved-pick at (eqb v.len 0) (broken EmptyValue) (pair key v v.to))
 
   value-moved : (key : Key) (x : ℕ) → value_at s (moved_key at key) (at + x) ≡ moved at (value_at (drop at s) key x)
   unfolding value_at
@@ -92,13 +94,13 @@ module _ (s : List ℕ) (at : ℕ) where
   sign-moved key x =
       let t = drop at s in
       let v : Step = value_at t key (end_of space_len t (x + 1)) in
-      ap (λ (b : Bool). pick b (Refused 7) (pick (eqb (get_or s (at + x) 0) 61) (value_at s (moved_key at key) (end_of space_len s (at + x + 1))) (Refused 6))) (past-moved x)
-      ∙ ap (λ (b : ℕ). pick (leb (length t) x) (Refused 7) (pick (eqb b 61) (value_at s (moved_key at key) (end_of space_len s (at + x + 1))) (Refused 6))) (sym (get_or-drop at s x 0))
-      ∙ ap (λ (n : ℕ). pick (leb (length t) x) (Refused 7) (pick (eqb (get_or t x 0) 61) (value_at s (moved_key at key) (end_of space_len s n)) (Refused 6))) (add_assoc at x 1)
-      ∙ ap (λ (n : ℕ). pick (leb (length t) x) (Refused 7) (pick (eqb (get_or t x 0) 61) (value_at s (moved_key at key) n) (Refused 6))) (end-shift space_len s at (x + 1))
-      ∙ ap (λ (p : Step). pick (leb (length t) x) (Refused 7) (pick (eqb (get_or t x 0) 61) p (Refused 6))) (value-moved key (end_of space_len t (x + 1)))
-      ∙ ap (λ (p : Step). pick (leb (length t) x) (Refused 7) p) (sym (moved-pick at (eqb (get_or t x 0) 61) v (Refused 6)))
-      ∙ sym (moved-pick at (leb (length t) x) (Refused 7) (pick (eqb (get_or t x 0) 61) v (Refused 6)))
+      ap (λ (b : Bool). pick b (broken KeyAlone) (pick (eqb (get_or s (at + x) 0) 61) (value_at s (moved_key at key) (end_of space_len s (at + x + 1))) (broken NoSign))) (past-moved x)
+      ∙ ap (λ (b : ℕ). pick (leb (length t) x) (broken KeyAlone) (pick (eqb b 61) (value_at s (moved_key at key) (end_of space_len s (at + x + 1))) (broken NoSign))) (sym (get_or-drop at s x 0))
+      ∙ ap (λ (n : ℕ). pick (leb (length t) x) (broken KeyAlone) (pick (eqb (get_or t x 0) 61) (value_at s (moved_key at key) (end_of space_len s n)) (broken NoSign))) (add_assoc at x 1)
+      ∙ ap (λ (n : ℕ). pick (leb (length t) x) (broken KeyAlone) (pick (eqb (get_or t x 0) 61) (value_at s (moved_key at key) n) (broken NoSign))) (end-shift space_len s at (x + 1))
+      ∙ ap (λ (p : Step). pick (leb (length t) x) (broken KeyAlone) (pick (eqb (get_or t x 0) 61) p (broken NoSign))) (value-moved key (end_of space_len t (x + 1)))
+      ∙ ap (λ (p : Step). pick (leb (length t) x) (broken KeyAlone) p) (sym (moved-pick at (eqb (get_or t x 0) 61) v (broken NoSign)))
+      ∙ sym (moved-pick at (leb (length t) x) (broken KeyAlone) (pick (eqb (get_or t x 0) 61) v (broken NoSign)))
 
   key-of-moved : (x y : ℕ) → key_of s (at + x) (at + y) ≡ moved_key at (key_of (drop at s) x y)
   key-of-moved x y = ap (λ (l : List ℕ). record { number = key_number l; from = at + x; to = at + y }) (part_moved x y)
@@ -109,12 +111,12 @@ module _ (s : List ℕ) (at : ℕ) where
       let t = drop at s in
       let to : ℕ = end_of key_len t x in
       let sign : ℕ = end_of space_len t to in
-      ap (λ (n : ℕ). pick (eqb n (at + x)) Done (sign_at s (key_of s (at + x) n) (end_of space_len s n))) (end-shift key_len s at x)
-      ∙ ap (λ (b : Bool). pick b Done (sign_at s (key_of s (at + x) (at + to)) (end_of space_len s (at + to)))) (equal-moved at to x)
-      ∙ ap (λ (k : Key). pick (eqb to x) Done (sign_at s k (end_of space_len s (at + to)))) (key-of-moved x to)
-      ∙ ap (λ (n : ℕ). pick (eqb to x) Done (sign_at s (moved_key at (key_of t x to)) n)) (end-shift space_len s at to)
-      ∙ ap (λ (p : Step). pick (eqb to x) Done p) (sign-moved (key_of t x to) sign)
-      ∙ sym (moved-pick at (eqb to x) Done (sign_at t (key_of t x to) sign))
+      ap (λ (n : ℕ). pick (eqb n (at + x)) clean (sign_at s (key_of s (at + x) n) (end_of space_len s n))) (end-shift key_len s at x)
+      ∙ ap (λ (b : Bool). pick b clean (sign_at s (key_of s (at + x) (at + to)) (end_of space_len s (at + to)))) (equal-moved at to x)
+      ∙ ap (λ (k : Key). pick (eqb to x) clean (sign_at s k (end_of space_len s (at + to)))) (key-of-moved x to)
+      ∙ ap (λ (n : ℕ). pick (eqb to x) clean (sign_at s (moved_key at (key_of t x to)) n)) (end-shift space_len s at to)
+      ∙ ap (λ (p : Step). pick (eqb to x) clean p) (sign-moved (key_of t x to) sign)
+      ∙ sym (moved-pick at (eqb to x) clean (sign_at t (key_of t x to) sign))
 
   -- the step at a place of a text is the first step of what stands from there on
   parameter-moved : parameter_at s at ≡ moved at (parameter_at (drop at s) 0)
@@ -126,9 +128,9 @@ module _ (s : List ℕ) (at : ℕ) where
 
   reads-moved : (step : Step) (on : ℕ → Reading) → reads s (moved at step) on ≡ reads (drop at s) step (λ n. on (at + n))
   unfolding reads moved
-  reads-moved Done on = refl
-  reads-moved (Refused n) on = refl
-  reads-moved (Found key value next) on = rw (part_moved key.from key.to, part_moved value.from value.to)
+  reads-moved (Ok None) on = refl
+  reads-moved (Err r) on = refl
+  reads-moved (Ok (Some p)) on = rw (part_moved p.key.from p.key.to, part_moved p.value.from p.value.to)
 
 -- to leave bytes out is to read what is left
 skip : (k : ℕ) (s : List ℕ) → key_value_from k s ≡ key_value (drop k s)
@@ -139,11 +141,11 @@ skip (suc k) [] = refl
 skip (suc k) (a ∷ s) = skip k s
 
 -- two readings that go on alike
-reads-alike : (s : List ℕ) (step : Step) (on other : ℕ → Reading) → ((key : Key) (value : Raw) (next : ℕ) → step ≡ Found key value next → on next ≡ other next) → reads s step on ≡ reads s step other
+reads-alike : (s : List ℕ) (step : Step) (on other : ℕ → Reading) → ((key : Key) (value : Raw) (next : ℕ) → step ≡ pair key value next → on next ≡ other next) → reads s step on ≡ reads s step other
 unfolding reads
-reads-alike s Done on other h = refl
-reads-alike s (Refused n) on other h = refl
-reads-alike s (Found key value next) on other h = ap (λ (r : Reading). follows (keyed (part s key.from key.to) (unescaped (part s value.from value.to))) r) (h key value next refl)
+reads-alike s (Ok None) on other h = refl
+reads-alike s (Err r) on other h = refl
+reads-alike s (Ok (Some p)) on other h = ap (λ (r : Reading). follows (keyed (part s p.key.from p.key.to) (unescaped (part s p.value.from p.value.to))) r) (h p.key p.value p.next refl)
 
 nothing : ends 0 ≡ reads [] (parameter_at [] 0) (λ n. key_value (drop n []))
 unfolding reads parameter_at key_at run_from
@@ -170,19 +172,19 @@ reading_step s at =
     ∙ ap (λ (p : Step). reads s p (λ n. key_value (drop n s))) (sym (parameter-moved s at))
 
 -- the same by cases of the step
-pub reading-done : (s : List ℕ) (at : ℕ) → parameter_at s at ≡ Done → key_value (drop at s) ≡ ends 0
+pub reading-done : (s : List ℕ) (at : ℕ) → parameter_at s at ≡ clean → key_value (drop at s) ≡ ends 0
 unfolding reads
 reading-done s at e = reading_step s at ∙ rw e
 
-pub reading-refused : (s : List ℕ) (at n : ℕ) → parameter_at s at ≡ Refused n → key_value (drop at s) ≡ ends n
+pub reading-refused : (s : List ℕ) (at : ℕ) (r : Refusal) → parameter_at s at ≡ broken r → key_value (drop at s) ≡ ends (refusal_number r)
 unfolding reads
-reading-refused s at n e = reading_step s at ∙ rw e
+reading-refused s at r e = reading_step s at ∙ rw e
 
 -- the setting that a parameter gives
 abbrev pub setting_of : List ℕ → Key → Raw → Setting
 setting_of s key value = keyed (part s key.from key.to) (unescaped (part s value.from value.to))
 
-module _ (s : List ℕ) (at : ℕ) (key : Key) (value : Raw) (next : ℕ) (step : parameter_at s at ≡ Found key value next) where
+module _ (s : List ℕ) (at : ℕ) (key : Key) (value : Raw) (next : ℕ) (step : parameter_at s at ≡ pair key value next) where
   pub reading-found : key_value (drop at s) ≡ follows (setting_of s key value) (key_value (drop next s))
   unfolding reads
   reading-found = reading_step s at ∙ rw step

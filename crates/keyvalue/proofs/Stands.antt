@@ -1,5 +1,8 @@
 -- Where a parameter that was found stands: laws on places, for the loop that reads on behind it.
 -- Assumes nothing.
+use Rattle.setting.specs.declared.Refusal.TheVariants.{NoSign, KeyAlone, EmptyValue, OpenQuote}
+use Rattle.setting.specs.declared.Refusal.{Refusal}
+use Rattle.setting.specs.Refusal.{refusal_number}
 use mathlib.Core.Path.{◌≡◌, refl}
 use mathlib.Core.Bool.{Bool, true, false}
 use mathlib.Core.List.{List}
@@ -14,10 +17,8 @@ use Rattle.byte.proofs.Laws.{past}
 use Rattle.names.specs.Find.{key_number}
 use Rattle.keyvalue.specs.declared.Key.{Key}
 use Rattle.keyvalue.specs.declared.Raw.{Raw}
-use Rattle.keyvalue.specs.declared.Step.{Step}
-use Rattle.keyvalue.specs.declared.Step.TheVariants.{Done, Refused, Found}
 use Rattle.keyvalue.specs.Scan.{end_of, part, space_len, key_len, quoted_len, simple_len}
-use Rattle.keyvalue.specs.KeyValue.{unescaped, key_of, raw_at, quoted_at, simple_at, value_at, sign_at, key_at, parameter_at}
+use Rattle.keyvalue.specs.KeyValue.{Step, clean, broken, pair, unescaped, key_of, raw_at, quoted_at, simple_at, value_at, sign_at, key_at, parameter_at}
 use Rattle.scan.proofs.Runs.{end-within}
 use Rattle.backslash.proofs.Pieces.{shorter}
 
@@ -47,13 +48,13 @@ pub record Stands (s : List ℕ) (at : ℕ) (key : Key) (value : Raw) (next : �
 
 -- what a step may be: an end whose number is one of 6 to 9, or a parameter that stands so
 data ValueStep (s : List ℕ) (key : Key) (at : ℕ) : Step → Type 0 where
-  refused : (n : ℕ) → 6 ≤ n → n ≤ 9 → ValueStep s key at (Refused n)
-  found : (value : Raw) (next : ℕ) → Valued s at value next → ValueStep s key at (Found key value next)
+  refused : (r : Refusal) → 6 ≤ refusal_number r → refusal_number r ≤ 9 → ValueStep s key at (broken r)
+  found : (value : Raw) (next : ℕ) → Valued s at value next → ValueStep s key at (pair key value next)
 
 data AnyStep (s : List ℕ) (at : ℕ) : Step → Type 0 where
-  done : AnyStep s at Done
-  refused : (n : ℕ) → 6 ≤ n → n ≤ 9 → AnyStep s at (Refused n)
-  found : (key : Key) (value : Raw) (next : ℕ) → Stands s at key value next → AnyStep s at (Found key value next)
+  done : AnyStep s at clean
+  refused : (r : Refusal) → 6 ≤ refusal_number r → refusal_number r ≤ 9 → AnyStep s at (broken r)
+  found : (key : Key) (value : Raw) (next : ℕ) → Stands s at key value next → AnyStep s at (pair key value next)
 
 -- a decoded value is no longer than the part of the text that it stands in
 part-most : (s : List ℕ) (from to : ℕ) → from ≤ to → to ≤ length s → length (unescaped (part s from to)) ≤ to - from
@@ -70,8 +71,8 @@ module _ (s : List ℕ) (key : Key) (at : ℕ) (h : at ≤ length s) where
   quoted-step = by (leb (length s) (raw_at quoted_len s at).to) refl
     where
       by : (t : Bool) → leb (length s) (raw_at quoted_len s at).to ≡ t
-          → ValueStep s key at (pick t (Refused 9) (Found key (raw_at quoted_len s at) ((raw_at quoted_len s at).to + 1)))
-      by true e = refused 9 (omega arith) (omega arith)
+          → ValueStep s key at (pick t (broken OpenQuote) (pair key (raw_at quoted_len s at) ((raw_at quoted_len s at).to + 1)))
+      by true e = refused OpenQuote (omega arith) (omega arith)
       by false e =
           let l : end_of quoted_len s at < length s = leb-false _ _ e in
           found (raw_at quoted_len s at) (end_of quoted_len s at + 1) (record {
@@ -89,8 +90,8 @@ module _ (s : List ℕ) (key : Key) (at : ℕ) (h : at ≤ length s) where
   simple-step = by (eqb (raw_at simple_len s at).len 0) refl
     where
       by : (t : Bool) → eqb (raw_at simple_len s at).len 0 ≡ t
-          → ValueStep s key at (pick t (Refused 8) (Found key (raw_at simple_len s at) (raw_at simple_len s at).to))
-      by true e = refused 8 (omega arith) (omega arith)
+          → ValueStep s key at (pick t (broken EmptyValue) (pair key (raw_at simple_len s at) (raw_at simple_len s at).to))
+      by true e = refused EmptyValue (omega arith) (omega arith)
       by false e =
           found (raw_at simple_len s at) (end_of simple_len s at) (record {
             after = omega arith;
@@ -145,13 +146,13 @@ sign-step : (s : List ℕ) (at from to sign : ℕ) → at ≤ from → from < to
 unfolding sign_at
 sign-step s at from to sign a b c = by (leb (length s) sign) refl (eqb (get_or s sign 0) 61)
   where
-    by : (t : Bool) → leb (length s) sign ≡ t → (u : Bool) → AnyStep s at (pick t (Refused 7) (pick u (value_at s (key_of s from to) (end_of space_len s (sign + 1))) (Refused 6)))
-    by true e u = refused 7 (omega arith) (omega arith)
+    by : (t : Bool) → leb (length s) sign ≡ t → (u : Bool) → AnyStep s at (pick t (broken KeyAlone) (pick u (value_at s (key_of s from to) (end_of space_len s (sign + 1))) (broken NoSign)))
+    by true e u = refused KeyAlone (omega arith) (omega arith)
     by false e true =
         let l : sign < length s = leb-false _ _ e in
         let start : ℕ = end_of space_len s (sign + 1) in
         keyed s at from to start (value_at s (key_of s from to) start) a b (omega arith) (value-step s (key_of s from to) start (end-within space_len s (sign + 1) (omega arith)))
-    by false e false = refused 6 (omega arith) (omega arith)
+    by false e false = refused NoSign (omega arith) (omega arith)
 
 any_step : (s : List ℕ) (at : ℕ) → AnyStep s at (parameter_at s at)
 unfolding parameter_at key_at
@@ -163,15 +164,15 @@ any_step s at = by (eqb to from) refl
     to : ℕ
     to = end_of key_len s from
 
-    by : (t : Bool) → eqb to from ≡ t → AnyStep s at (pick t Done (sign_at s (key_of s from to) (end_of space_len s to)))
+    by : (t : Bool) → eqb to from ≡ t → AnyStep s at (pick t clean (sign_at s (key_of s from to) (end_of space_len s to)))
     by true e = done
     by false e = sign-step s at from to (end_of space_len s to) (omega arith) (omega (arith, eqb-false to from e)) (omega arith)
 
-stands-in : (s : List ℕ) (at : ℕ) (key : Key) (value : Raw) (next : ℕ) → AnyStep s at (Found key value next) → Stands s at key value next
+stands-in : (s : List ℕ) (at : ℕ) (key : Key) (value : Raw) (next : ℕ) → AnyStep s at (pair key value next) → Stands s at key value next
 stands-in s at key value next (found k v n h) = h
 
 -- a parameter that was found stands in order, within the text and behind the place
-pub stands : (s : List ℕ) (at : ℕ) (key : Key) (value : Raw) (next : ℕ) → parameter_at s at ≡ Found key value next → Stands s at key value next
+pub stands : (s : List ℕ) (at : ℕ) (key : Key) (value : Raw) (next : ℕ) → parameter_at s at ≡ pair key value next → Stands s at key value next
 stands s at key value next e = stands-in s at key value next (rw e at (any_step s at))
 
 -- a refusal is one of 6 to 9
@@ -179,8 +180,8 @@ pub record Number (n : ℕ) : Type 0 where
   pub low : 6 ≤ n
   pub high : n ≤ 9
 
-number_in : (s : List ℕ) (at n : ℕ) → AnyStep s at (Refused n) → Number n
-number_in s at n (refused m l h) = record { low = l; high = h }
+number_in : (s : List ℕ) (at : ℕ) (r : Refusal) → AnyStep s at (broken r) → Number (refusal_number r)
+number_in s at r (refused m l h) = record { low = l; high = h }
 
-pub number : (s : List ℕ) (at n : ℕ) → parameter_at s at ≡ Refused n → Number n
-number s at n e = number_in s at n (rw e at (any_step s at))
+pub number : (s : List ℕ) (at : ℕ) (r : Refusal) → parameter_at s at ≡ broken r → Number (refusal_number r)
+number s at r e = number_in s at r (rw e at (any_step s at))

@@ -1,14 +1,14 @@
 -- Laws of one parameter, as the code finds it out in turn.
 -- Assumes nothing.
+use Rattle.setting.specs.declared.Refusal.TheVariants.{NoSign, KeyAlone, EmptyValue, OpenQuote}
 use mathlib.Core.Path.{◌≡◌, ◌∙◌}
 use mathlib.Core.List.{List}
 use Prim.Native.Nat.{ℕ, ◌+◌, ◌≤◌, ◌<◌}
 use lib.ListN.{length, get_or}
 use borrow.Author.Tests.{le-leb, lt-leb, eq-eqb, ne_eqb}
 use Rattle.keyvalue.specs.declared.Key.{Key}
-use Rattle.keyvalue.specs.declared.Step.TheVariants.{Done, Refused, Found}
 use Rattle.keyvalue.specs.Scan.{end_of, space_len, key_len, quoted_len, simple_len}
-use Rattle.keyvalue.specs.KeyValue.{key_of, raw_at, quoted_at, simple_at, value_at, sign_at, key_at, parameter_at}
+use Rattle.keyvalue.specs.KeyValue.{clean, broken, pair, key_of, raw_at, quoted_at, simple_at, value_at, sign_at, key_at, parameter_at}
 
 -- a value by what stands at its start
 module _ (s : List ℕ) (key : Key) (at : ℕ) where
@@ -17,12 +17,12 @@ module _ (s : List ℕ) (key : Key) (at : ℕ) where
     unfolding value_at
     quoted = rw (eq-eqb (get_or s at 0) 39 quote)
 
-    pub open-quote : length s ≤ (raw_at quoted_len s (at + 1)).to → value_at s key at ≡ Refused 9
+    pub open-quote : length s ≤ (raw_at quoted_len s (at + 1)).to → value_at s key at ≡ broken OpenQuote
     unfolding quoted_at
     open-quote h = quoted ∙ rw (le-leb _ _ h)
 
     pub closed-quote : (raw_at quoted_len s (at + 1)).to < length s
-        → value_at s key at ≡ Found key (raw_at quoted_len s (at + 1)) ((raw_at quoted_len s (at + 1)).to + 1)
+        → value_at s key at ≡ pair key (raw_at quoted_len s (at + 1)) ((raw_at quoted_len s (at + 1)).to + 1)
     unfolding quoted_at
     closed-quote h = quoted ∙ rw (lt-leb _ _ h)
 
@@ -31,18 +31,18 @@ module _ (s : List ℕ) (key : Key) (at : ℕ) where
     unfolding value_at
     simple = rw (ne_eqb (get_or s at 0) 39 quote)
 
-    pub empty-value : (raw_at simple_len s at).len ≡ 0 → value_at s key at ≡ Refused 8
+    pub empty-value : (raw_at simple_len s at).len ≡ 0 → value_at s key at ≡ broken EmptyValue
     unfolding simple_at
     empty-value h = simple ∙ rw (eq-eqb _ _ h)
 
     pub simple-value : ((raw_at simple_len s at).len ≡ 0 → ⊥)
-        → value_at s key at ≡ Found key (raw_at simple_len s at) (raw_at simple_len s at).to
+        → value_at s key at ≡ pair key (raw_at simple_len s at) (raw_at simple_len s at).to
     unfolding simple_at
     simple-value h = simple ∙ rw (ne_eqb _ _ h)
 
 -- a parameter by where its key stands, and what stands where `=` must
 module _ (s : List ℕ) (at from to sign : ℕ) (start : from ≡ end_of space_len s at) (end : to ≡ end_of key_len s from) where
-  pub no_key : to ≡ from → parameter_at s at ≡ Done
+  pub no_key : to ≡ from → parameter_at s at ≡ clean
   unfolding parameter_at key_at
   no_key h = rw (← start, ← end, eq-eqb to from h)
 
@@ -51,12 +51,12 @@ module _ (s : List ℕ) (at from to sign : ℕ) (start : from ≡ end_of space_l
     unfolding parameter_at key_at
     keyed = rw (← start, ← end, ne_eqb to from some, ← after)
 
-    pub cut_off : length s ≤ sign → parameter_at s at ≡ Refused 7
+    pub cut_off : length s ≤ sign → parameter_at s at ≡ broken KeyAlone
     unfolding sign_at
     cut_off h = keyed ∙ rw (le-leb (length s) sign h)
 
     module _ (h : sign < length s) where
-      pub no_sign : (get_or s sign 0 ≡ 61 → ⊥) → parameter_at s at ≡ Refused 6
+      pub no_sign : (get_or s sign 0 ≡ 61 → ⊥) → parameter_at s at ≡ broken NoSign
       unfolding sign_at
       no_sign n = keyed ∙ rw (lt-leb (length s) sign h, ne_eqb (get_or s sign 0) 61 n)
 

@@ -1,16 +1,31 @@
 -- The key-value reading of document 01, section "A reading".
 -- Assumes nothing.
-use Rattle.std.specs.Prelude.{ℕ, zero, suc, ◌+◌, ◌-◌, List, [], ◌∷◌, leb, eqb, length, get_or}
+use Rattle.std.specs.Prelude.{ℕ, zero, suc, ◌+◌, ◌-◌, List, [], ◌∷◌, leb, eqb, length, get_or, Option, Some, None, Result, Ok, Err}
 use Rattle.byte.specs.Byte.{pick}
 use Rattle.names.specs.Find.{key_number}
 use Rattle.setting.specs.Setting.{keyed, Reading, ends, follows}
 use Rattle.keyvalue.specs.declared.Key.{Key}
 use Rattle.keyvalue.specs.declared.Raw.{Raw}
-use Rattle.keyvalue.specs.declared.Step.{Step}
-use Rattle.keyvalue.specs.declared.Step.TheVariants.{Done, Refused, Found}
+use Rattle.keyvalue.specs.declared.Pair.{Pair}
+use Rattle.setting.specs.declared.Refusal.{Refusal}
+use Rattle.setting.specs.declared.Refusal.TheVariants.{NoSign, KeyAlone, EmptyValue, OpenQuote}
+use Rattle.setting.specs.Refusal.{refusal_number}
 unfoldable pub use Rattle.backslash.specs.Backslash.{unescaped_from}
 pub use Rattle.backslash.specs.Backslash.{unescaped}
 use Rattle.keyvalue.specs.Scan.{end_of, part, space_len, key_len, quoted_len, simple_len}
+
+-- what stands at a place: a parameter, the clean end, or a refusal
+abbrev pub Step : Type 0
+Step = Result (Option Pair) Refusal
+
+abbrev pub clean : Step
+clean = Ok None
+
+abbrev pub broken : Refusal → Step
+broken r = Err r
+
+abbrev pub pair : Key → Raw → ℕ → Step
+pair key value next = Ok (Some (record { key = key; value = value; next = next }))
 
 -- where a key stands, and its number
 abbrev pub key_of : List ℕ → ℕ → ℕ → Key
@@ -22,11 +37,11 @@ raw_at rule s at = record { from = at; to = end_of rule s at; len = length (unes
 
 -- 9: "quoted value without its closing quote"; "Nothing need separate a closing quote from the next key."
 unfoldable pub quoted_at : List ℕ → Key → ℕ → Step
-quoted_at s key at = let v = raw_at quoted_len s at in pick (leb (length s) v.to) (Refused 9) (Found key v (v.to + 1))
+quoted_at s key at = let v = raw_at quoted_len s at in pick (leb (length s) v.to) (broken OpenQuote) (pair key v (v.to + 1))
 
 -- 8: "An unquoted value may not be empty after this; `''` may."
 unfoldable pub simple_at : List ℕ → Key → ℕ → Step
-simple_at s key at = let v = raw_at simple_len s at in pick (eqb v.len 0) (Refused 8) (Found key v v.to)
+simple_at s key at = let v = raw_at simple_len s at in pick (eqb v.len 0) (broken EmptyValue) (pair key v v.to)
 
 unfoldable pub value_at : List ℕ → Key → ℕ → Step
 value_at s key at = pick (eqb (get_or s at 0) 39) (quoted_at s key (at + 1)) (simple_at s key at)
@@ -34,12 +49,12 @@ value_at s key at = pick (eqb (get_or s at 0) 39) (quoted_at s key (at + 1)) (si
 -- "Then white space, `=`, white space, value": 7 where the text ends in place of `=`, 6 where another character stands there
 unfoldable pub sign_at : List ℕ → Key → ℕ → Step
 sign_at s key at =
-    pick (leb (length s) at) (Refused 7)
-    (pick (eqb (get_or s at 0) 61) (value_at s key (end_of space_len s (at + 1))) (Refused 6))
+    pick (leb (length s) at) (broken KeyAlone)
+    (pick (eqb (get_or s at 0) 61) (value_at s key (end_of space_len s (at + 1))) (broken NoSign))
 
 -- "An empty key ends the reading cleanly, even with text left over."
 unfoldable pub key_at : List ℕ → ℕ → Step
-key_at s from = let to = end_of key_len s from in pick (eqb to from) Done (sign_at s (key_of s from to) (end_of space_len s to))
+key_at s from = let to = end_of key_len s from in pick (eqb to from) clean (sign_at s (key_of s from to) (end_of space_len s to))
 
 -- "Skip white space; a key runs to white space or `=`": what stands at a place of a text, one parameter or the end
 unfoldable pub parameter_at : List ℕ → ℕ → Step
@@ -47,10 +62,10 @@ parameter_at s at = key_at s (end_of space_len s at)
 
 -- a step as the start of a reading, which goes on at the next place
 unfoldable pub reads : List ℕ → Step → (ℕ → Reading) → Reading
-reads s Done on = ends 0
-reads s (Refused n) on = ends n
-reads s (Found key value next) on =
-    follows (keyed (part s key.from key.to) (unescaped (part s value.from value.to))) (on next)
+reads s (Ok None) on = ends 0
+reads s (Err r) on = ends (refusal_number r)
+reads s (Ok (Some p)) on =
+    follows (keyed (part s p.key.from p.key.to) (unescaped (part s p.value.from p.value.to))) (on p.next)
 
 -- the reading of what follows the first k bytes
 unfoldable pub key_value_from : ℕ → List ℕ → Reading

@@ -6,6 +6,8 @@ ghost use Rattle.byte.specs.Put.{written, after};
 ghost use Rattle.keyvalue.specs.Scan.{quoted_len, simple_len};
 ghost use Rattle.keyvalue.specs.KeyValue.{raw_at, value_at, parameter_at, unescaped};
 
+use setting::Refusal;
+
 // Where a key stands, and its number, 0 where it is unknown.
 #[derive(Clone, Copy)]
 pub struct Key {
@@ -22,12 +24,12 @@ pub struct Raw {
     pub len: usize,
 }
 
-// What stands at a place: the clean end, a refusal, or a parameter with the place behind it.
+// A parameter, and the place behind it.
 #[derive(Clone, Copy)]
-pub enum Step {
-    Done,
-    Refused(u8),
-    Found { key: Key, value: Raw, next: usize },
+pub struct Pair {
+    pub key: Key,
+    pub value: Raw,
+    pub next: usize,
 }
 
 // The place behind the bytes that a value that is not quoted gains as they stand, seen at a glance.
@@ -113,7 +115,7 @@ fn quoted_value(s: &[u8], at: usize) -> Raw
 }
 
 // A parameter's value, quoted or not, and so the whole parameter.
-fn value(s: &[u8], key: Key, at: usize) -> Step
+fn value(s: &[u8], key: Key, at: usize) -> Result<Option<Pair>, Refusal>
     ensures { result ≡ value_at s.now key at }
 {
     if byte::at(s, at) == b'\'' {
@@ -121,34 +123,34 @@ fn value(s: &[u8], key: Key, at: usize) -> Step
         let value = quoted_value(s, start);
         let quote = value.to;
         if s.len() <= quote {
-            return Step::Refused(9);
+            return Err(Refusal::OpenQuote);
         }
         let next = quote + 1;
-        return Step::Found { key, value, next };
+        return Ok(Some(Pair { key, value, next }));
     }
     let value = simple_value(s, at);
     if value.len == 0 {
-        return Step::Refused(8);
+        return Err(Refusal::EmptyValue);
     }
     let next = value.to;
-    Step::Found { key, value, next }
+    Ok(Some(Pair { key, value, next }))
 }
 
-// The parameter that stands at a place, or the end of the reading there.
-pub fn parameter(s: &[u8], at: usize) -> Step
+// The parameter that stands at a place, or none where the reading ends cleanly there.
+pub fn parameter(s: &[u8], at: usize) -> Result<Option<Pair>, Refusal>
     ensures { result ≡ parameter_at s.now at }
 {
     let from = scan::skip_ws(s, at);
     let to = scan::keyword(s, from);
     if to == from {
-        return Step::Done;
+        return Ok(None);
     }
     let sign = scan::skip_ws(s, to);
     if s.len() <= sign {
-        return Step::Refused(7);
+        return Err(Refusal::KeyAlone);
     }
     if s[sign] != b'=' {
-        return Step::Refused(6);
+        return Err(Refusal::NoSign);
     }
     let number = names::key_number(&s[from..to]);
     let key = Key { number, from, to };

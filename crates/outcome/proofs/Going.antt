@@ -13,8 +13,10 @@ use Rattle.byte.specs.Byte.{pick, part_of}
 use Rattle.byte.specs.Put.{put, written, after}
 use Rattle.setting.specs.Setting.{Setting, kind_of, value_of, Reading, ends, follows}
 use Rattle.url_parser.specs.declared.Found.{Found}
-use Rattle.url_parser.specs.declared.UrlStep.{UrlStep}
-use Rattle.url_parser.specs.declared.UrlStep.TheVariants.{Given, Ended}
+use Rattle.setting.specs.declared.Refusal.{Refusal}
+use Rattle.setting.specs.declared.Refusal.TheVariants.{NoSign, KeyAlone, EmptyValue, OpenQuote, Bracket, NoEquals, NotUtf8}
+use Rattle.setting.specs.Refusal.{refusal_number}
+use Rattle.url_parser.specs.Step.{UrlStep}
 use Rattle.lists.specs.Fault.{is_fine, number_of, key_of}
 use Rattle.config.specs.declared.Config.{Config}
 use Rattle.apply.specs.Apply.{Applied, applied}
@@ -23,7 +25,7 @@ use Rattle.outcome.specs.Outcome.{kept, refused, ended, outcome, outcome_of}
 use Rattle.taking.specs.Taking.{keeps, next_at, value_at, taken_by, left_by, taken_of, taken_leaves}
 use Rattle.outcome.specs.Steps.{State}
 use Rattle.outcome.proofs.Packing.{Packed, value_written, value_after, value-stands, value-left, value-packed}
-use Rattle.taking.proofs.Next.{from, measure, slack, Next, next-found, next-ended}
+use Rattle.taking.proofs.Next.{from, measure, slack, Next, next-found, next-over, next-refused}
 
 -- d₀ is the buffer at first, d the buffer now, n settings are applied, and with those that can still come they are at most m
 pub record Going (s d₀ : List ℕ) (uri : Bool) (m : ℕ) (d : List ℕ) (st : State) (n : ℕ) : Type 0 where
@@ -51,6 +53,16 @@ no_end k t e = no_setting k t (sym e)
 
 above : (k : ℕ) → eqb (suc k) 0 ≡ false
 above k = ne_eqb (suc k) 0 (λ z. absurd (omega arith))
+
+-- no refusal has the number of a clean end
+pub end-refused : (r : Refusal) → end_as (refusal_number r) ≡ Err (refusal_number r)
+end-refused NoSign = refl
+end-refused KeyAlone = refl
+end-refused EmptyValue = refl
+end-refused OpenQuote = refl
+end-refused Bracket = refl
+end-refused NoEquals = refl
+end-refused NotUtf8 = refl
 
 -- two ends that are one have one number
 same-end : (k j : ℕ) → end_as k ≡ end_as j → k ≡ j
@@ -170,8 +182,9 @@ module _ (s d₀ : List ℕ) (uri : Bool) (m : ℕ) (d : List ℕ) (st : State) 
   on-by : (step : UrlStep) → next_at s uri st.url ≡ step → (t : Taken) → Ok (Some t) ≡ taken_by s uri st.packed d step
       → (l : List ℕ) → l ≡ left_by s uri st.packed d step → (a : Applied) → a ≡ applied t.kind (part_of st.packed t.end l) st.packed st.config → is_fine a.fault ≡ true
       → Going s d₀ uri m l (record { config = a.config; packed = t.packed; url = t.next }) (n + 1) × (measure s uri t.next < measure s uri st.url)
-  on-by (Ended k) e t is l w a gave fine = no_setting k t is
-  on-by (Given f) e t is l w a gave fine =
+  on-by (Ok None) e t is l w a gave fine = no_setting 0 t is
+  on-by (Err r) e t is l w a gave fine = cc
+  on-by (Ok (Some f)) e t is l w a gave fine =
       let x = next-found s uri st.url f g.at e in
       let same : t ≡ given f = one t (given f) is in
       rw (same, w) (going f (value_at s uri f) refl x a (rw (same, w) at gave) fine (keeps f.kind) refl, x.falls)
@@ -179,20 +192,26 @@ module _ (s d₀ : List ℕ) (uri : Bool) (m : ℕ) (d : List ℕ) (st : State) 
   off-by : (step : UrlStep) → next_at s uri st.url ≡ step → (t : Taken) → Ok (Some t) ≡ taken_by s uri st.packed d step
       → (l : List ℕ) → l ≡ left_by s uri st.packed d step → (a : Applied) → a ≡ applied t.kind (part_of st.packed t.end l) st.packed st.config → is_fine a.fault ≡ false
       → Packed (length s) d₀ g.bytes l × (outcome_of s ≡ refused (number_of a.fault) (key_of a.fault t.kind) n)
-  off-by (Ended k) e t is l w a gave fine = no_setting k t is
-  off-by (Given f) e t is l w a gave fine =
+  off-by (Ok None) e t is l w a gave fine = no_setting 0 t is
+  off-by (Err r) e t is l w a gave fine = cc
+  off-by (Ok (Some f)) e t is l w a gave fine =
       let same : t ≡ given f = one t (given f) is in
       rw (same, w) (faulty f (value_at s uri f) refl (next-found s uri st.url f g.at e) a (rw (same, w) at gave) fine)
 
   -- an end, clean or broken
   end_by : (step : UrlStep) → next_at s uri st.url ≡ step → (k : ℕ) → end_as k ≡ taken_by s uri st.packed d step
       → (l : List ℕ) → l ≡ left_by s uri st.packed d step → Packed (length s) d₀ g.bytes l × (outcome_of s ≡ ended st.config g.bytes n k)
-  end_by (Ended j) e k is l w =
-      rw (same-end k j is, w) (
+  end_by (Ok None) e k is l w =
+      rw (same-end k 0 is, w) (
         g.packed,
-        g.comes ∙ ap (λ (r : Reading). outcome st.config g.bytes n r.settings r.end) (next-ended s uri st.url j g.at e) ∙ outcome-end st.config g.bytes n j,
+        g.comes ∙ ap (λ (r : Reading). outcome st.config g.bytes n r.settings r.end) (next-over s uri st.url g.at e) ∙ outcome-end st.config g.bytes n 0,
       )
-  end_by (Given f) e k is l w = no_end k _ is
+  end_by (Err x) e k is l w =
+      rw (same-end k (refusal_number x) (is ∙ sym (end-refused x)), w) (
+        g.packed,
+        g.comes ∙ ap (λ (r : Reading). outcome st.config g.bytes n r.settings r.end) (next-refused s uri st.url x g.at e) ∙ outcome-end st.config g.bytes n (refusal_number x),
+      )
+  end_by (Ok (Some f)) e k is l w = no_end k _ is
 
   -- what a turn took, and what it wrote
   module _ (r : Result (Option Taken) ℕ) (is : r ≡ taken_of s uri st.url st.packed d) (l : List ℕ) (w : l ≡ taken_leaves s uri st.url st.packed d) where

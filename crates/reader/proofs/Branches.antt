@@ -18,8 +18,8 @@ use Rattle.config.specs.declared.Config.{Config}
 use Rattle.apply.specs.Apply.{applied}
 use Rattle.param.specs.Sets.{Sets}
 use Rattle.taking.specs.declared.Taken.{Taken}
-use Rattle.url_parser.specs.declared.UrlStep.{UrlStep}
-use Rattle.url_parser.specs.declared.UrlStep.TheVariants.{Given, Ended}
+use Rattle.setting.specs.Refusal.{refusal_number}
+use Rattle.url_parser.specs.Step.{UrlStep}
 use Rattle.taking.specs.Taking.{next_at, taken_by, taken_of, taken_leaves}
 use Rattle.taking.proofs.Next.{measure, slack}
 use Rattle.outcome.specs.declared.Answer.{Answer}
@@ -27,7 +27,7 @@ use Rattle.outcome.specs.Outcome.{outcome_of, filled}
 use Rattle.ending.specs.Ending.{ending}
 use Rattle.outcome.specs.Outcome.{ending_of}
 use Rattle.outcome.specs.Steps.{State}
-use Rattle.outcome.proofs.Going.{Going, end_as, broken-end, go_on, go-off, at-end}
+use Rattle.outcome.proofs.Going.{Going, end_as, broken-end, go_on, go-off, at-end, end-refused}
 use Rattle.outcome.proofs.Answers.{refused-text, end-fine, end-broken}
 
 -- the count stays far below the largest number
@@ -75,8 +75,9 @@ module _ (s d₀ : List ℕ) (uri : Bool) (d : List ℕ) (c : Config) (at : ℕ)
       (ap ending_of p.0, p.1, b.0)
     where
       broken : (step : UrlStep) (k : ℕ) → Err k ≡ taken_by s uri at d step → (k ≡ 0 → ⊥) × (Err k ≡ end_as k)
-      broken (Ended j) k e = broken-end j k e
-      broken (Given f) k e = cc
+      broken (Ok None) k e = cc
+      broken (Err r) k e = broken-end (refusal_number r) k (e ∙ sym (end-refused r))
+      broken (Ok (Some f)) k e = cc
 
 -- no record is promised of a refusal
 pub no_record : {A : Type 0} → (number : ℕ) → (number ≡ 0 → ⊥) → (r : ℕ) → r ≡ number → r ≡ 0 → A

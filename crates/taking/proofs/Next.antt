@@ -8,19 +8,19 @@ use native.Mathlib.Omega.{arith}
 use lib.ListN.{length, drop}
 use Rattle.byte.specs.Byte.{part_of, between}
 use Rattle.setting.specs.Setting.{Setting, kind_of, value_of, Reading, ends, follows}
-use Rattle.keyvalue.specs.declared.Step.{Step}
-use Rattle.keyvalue.specs.declared.Step.TheVariants.{Done, Refused, Found as FoundPair}
+use Rattle.std.proofs.Common.{Ok, Err, Some, None}
+use Rattle.setting.specs.declared.Refusal.{Refusal}
+use Rattle.setting.specs.Refusal.{refusal_number}
 use Rattle.keyvalue.specs.declared.Key.{Key}
 use Rattle.keyvalue.specs.declared.Raw.{Raw}
-use Rattle.keyvalue.specs.KeyValue.{key_value, parameter_at, unescaped}
+use Rattle.keyvalue.specs.KeyValue.{Step, pair, key_value, parameter_at, unescaped}
 use Rattle.keyvalue.proofs.Stands.{Stands, stands}
 use Rattle.keyvalue.proofs.Reading.{setting_of, reading-done, reading-refused, reading-found, kind-is, value-is}
 use Rattle.url_parser.specs.declared.Stage.{Stage}
 use Rattle.url_parser.specs.declared.Url.{Url}
 use Rattle.url_parser.specs.declared.Found.{Found}
-use Rattle.url_parser.specs.declared.UrlStep.TheVariants.{Given, Ended}
-use Rattle.url_parser.specs.Step.{url, value_in, reading_from}
-use Rattle.url_parser.proofs.Reading.{Gives, left, reading_step, reading-end}
+use Rattle.url_parser.specs.Step.{given, over, refused, url, value_in, reading_from}
+use Rattle.url_parser.proofs.Reading.{Gives, left, reading_step, reading-over, reading-refused as uri-refused}
 use Rattle.url_parser.proofs.Branches.{value-fixed}
 use Rattle.taking.specs.Taking.{keeps}
 use Rattle.taking.specs.Taking.{as_url_step, next_at, value_at}
@@ -52,7 +52,7 @@ pub record Next (s : List ℕ) (uri : Bool) (u : Url) (f : Found) : Type 0 where
   pub falls : measure s uri f.next < measure s uri u
 
 -- the next setting of a key-value text
-module _ (s : List ℕ) (u : Url) (key : Key) (value : Raw) (next : ℕ) (step : parameter_at s u.at ≡ FoundPair key value next) where
+module _ (s : List ℕ) (u : Url) (key : Key) (value : Raw) (next : ℕ) (step : parameter_at s u.at ≡ pair key value next) where
   k : Stands s u.at key value next
   k = stands s u.at key value next step
 
@@ -75,18 +75,24 @@ module _ (s : List ℕ) (u : Url) (key : Key) (value : Raw) (next : ℕ) (step :
         falls = omega (arith, k.grows, k.within);
       }
 
-pair_found : (s : List ℕ) (u : Url) (step : Step) → parameter_at s u.at ≡ step → (f : Found) → as_url_step step ≡ Given f → Next s false u f
-pair_found s u Done e f q = let z : ◌≡◌ {A = ℕ} 0 1 = cc in absurd (omega arith)
-pair_found s u (Refused n) e f q = let z : ◌≡◌ {A = ℕ} 0 1 = cc in absurd (omega arith)
-pair_found s u (FoundPair key value next) e f q =
-    let r : record { kind = key.number; from = value.from; to = value.to; len = value.len; fixed = false; next = url Stage.Credentials next } ≡ f = cc in
-    subst (Next s false u) r (pair-next s u key value next e)
+pair_found : (s : List ℕ) (u : Url) (step : Step) → parameter_at s u.at ≡ step → (f : Found) → as_url_step step ≡ given f → Next s false u f
+pair_found s u (Ok None) e f q = let z : ◌≡◌ {A = ℕ} 0 1 = cc in absurd (omega arith)
+pair_found s u (Err r) e f q = let z : ◌≡◌ {A = ℕ} 0 1 = cc in absurd (omega arith)
+pair_found s u (Ok (Some p)) e f q =
+    let r : record { kind = p.key.number; from = p.value.from; to = p.value.to; len = p.value.len; fixed = false; next = url Stage.Credentials p.next } ≡ f = cc in
+    subst (Next s false u) r (pair-next s u p.key p.value p.next e)
 
-pair_ended : (s : List ℕ) (u : Url) (step : Step) → parameter_at s u.at ≡ step → (n : ℕ) → as_url_step step ≡ Ended n → from s false u ≡ ends n
+pair_over : (s : List ℕ) (u : Url) (step : Step) → parameter_at s u.at ≡ step → as_url_step step ≡ over → from s false u ≡ ends 0
 unfolding from
-pair_ended s u Done e n q = let r : 0 ≡ n = cc in reading-done s u.at e ∙ ap ends r
-pair_ended s u (Refused m) e n q = let r : m ≡ n = cc in reading-refused s u.at m e ∙ ap ends r
-pair_ended s u (FoundPair key value next) e n q = let z : ◌≡◌ {A = ℕ} 0 1 = cc in absurd (omega arith)
+pair_over s u (Ok None) e q = reading-done s u.at e
+pair_over s u (Err r) e q = let z : ◌≡◌ {A = ℕ} 0 1 = cc in absurd (omega arith)
+pair_over s u (Ok (Some p)) e q = let z : ◌≡◌ {A = ℕ} 0 1 = cc in absurd (omega arith)
+
+pair_refused : (s : List ℕ) (u : Url) (step : Step) → parameter_at s u.at ≡ step → (r : Refusal) → as_url_step step ≡ refused r → from s false u ≡ ends (refusal_number r)
+unfolding from
+pair_refused s u (Ok None) e r q = let z : ◌≡◌ {A = ℕ} 0 1 = cc in absurd (omega arith)
+pair_refused s u (Err m) e r q = let same : m ≡ r = cc in reading-refused s u.at m e ∙ ap (λ (x : Refusal). ends (refusal_number x)) same
+pair_refused s u (Ok (Some p)) e r q = let z : ◌≡◌ {A = ℕ} 0 1 = cc in absurd (omega arith)
 
 -- port's value is not kept
 no-port : {A : Type 0} → (kind : ℕ) → kind ≡ 10 → keeps kind ≡ true → A
@@ -117,11 +123,16 @@ uri-next s u f h g =
     packs true e q = no-port f.kind (g.port-only e) q
     packs false e q = omega (arith, g.long, g.short e, g.starts, g.ordered, g.within)
 
-pub next-found : (s : List ℕ) (uri : Bool) (u : Url) (f : Found) → u.at ≤ length s → next_at s uri u ≡ Given f → Next s uri u f
+pub next-found : (s : List ℕ) (uri : Bool) (u : Url) (f : Found) → u.at ≤ length s → next_at s uri u ≡ given f → Next s uri u f
 next-found s true u f h e = uri-next s u f h (reading_step s u f h e)
 next-found s false u f h e = pair_found s u (parameter_at s u.at) refl f e
 
-pub next-ended : (s : List ℕ) (uri : Bool) (u : Url) (n : ℕ) → u.at ≤ length s → next_at s uri u ≡ Ended n → from s uri u ≡ ends n
+pub next-over : (s : List ℕ) (uri : Bool) (u : Url) → u.at ≤ length s → next_at s uri u ≡ over → from s uri u ≡ ends 0
 unfolding from
-next-ended s true u n h e = reading-end s u n h e
-next-ended s false u n h e = pair_ended s u (parameter_at s u.at) refl n e
+next-over s true u h e = reading-over s u h e
+next-over s false u h e = pair_over s u (parameter_at s u.at) refl e
+
+pub next-refused : (s : List ℕ) (uri : Bool) (u : Url) (r : Refusal) → u.at ≤ length s → next_at s uri u ≡ refused r → from s uri u ≡ ends (refusal_number r)
+unfolding from
+next-refused s true u r h e = uri-refused s u r h e
+next-refused s false u r h e = pair_refused s u (parameter_at s u.at) refl r e

@@ -3,13 +3,12 @@
 use Rattle.std.specs.Prelude.{ℕ, Bool, true, false, ◌||◌, List, eqb, Option, Some, None, Result, Ok, Err}
 use Rattle.byte.specs.Byte.{pick, between, part_of}
 use Rattle.byte.specs.Put.{written, after}
-use Rattle.keyvalue.specs.declared.Step.{Step}
-use Rattle.keyvalue.specs.KeyValue.{parameter_at, unescaped}
+use Rattle.setting.specs.Refusal.{refusal_number}
+use Rattle.keyvalue.specs.KeyValue.{Step, parameter_at, unescaped}
 use Rattle.url_parser.specs.declared.Stage.{Stage}
 use Rattle.url_parser.specs.declared.Url.{Url}
 use Rattle.url_parser.specs.declared.Found.{Found}
-use Rattle.url_parser.specs.declared.UrlStep.{UrlStep}
-use Rattle.url_parser.specs.Step.{url, step_at, value_in}
+use Rattle.url_parser.specs.Step.{UrlStep, given, over, refused, url, step_at, value_in}
 use Rattle.taking.specs.declared.Taken.{Taken}
 
 -- "Kept values are those of user, password, dbname, options, application_name and host." One host from a URI is a host.
@@ -18,10 +17,10 @@ keeps kind = eqb kind 20 || eqb kind 8 || between 1 5 kind
 
 -- a key-value step in the words of a URI's
 abbrev pub as_url_step : Step → UrlStep
-as_url_step Step.Done = UrlStep.Ended 0
-as_url_step (Step.Refused n) = UrlStep.Ended n
-as_url_step (Step.Found key value next) =
-    UrlStep.Given (record { kind = key.number; from = value.from; to = value.to; len = value.len; fixed = false; next = url Stage.Credentials next })
+as_url_step (Ok None) = over
+as_url_step (Err r) = refused r
+as_url_step (Ok (Some p)) =
+    given (record { kind = p.key.number; from = p.value.from; to = p.value.to; len = p.value.len; fixed = false; next = url Stage.Credentials p.next })
 
 -- the next step: of a URI, or of a key-value text, whose place alone counts
 abbrev pub next_at : List ℕ → Bool → Url → UrlStep
@@ -33,10 +32,11 @@ abbrev pub value_at : List ℕ → Bool → Found → List ℕ
 value_at s true f = value_in s f
 value_at s false f = unescaped (part_of f.from f.to s)
 
--- what is taken from the text at a place that is read up to: the end, clean with the number 0, or a setting whose value is written behind what is packed, up to `at`
+-- what is taken from the text at a place that is read up to: none at a clean end, a refusal's number, or a setting whose value is written behind what is packed, up to `at`
 abbrev pub taken_by : List ℕ → Bool → ℕ → List ℕ → UrlStep → Result (Option Taken) ℕ
-taken_by s uri at d (UrlStep.Ended n) = pick (eqb n 0) (Ok None) (Err n)
-taken_by s uri at d (UrlStep.Given f) =
+taken_by s uri at d (Ok None) = Ok None
+taken_by s uri at d (Err r) = Err (refusal_number r)
+taken_by s uri at d (Ok (Some f)) =
     Ok (Some (record {
       kind = f.kind;
       end = after d at (value_at s uri f);
@@ -45,8 +45,9 @@ taken_by s uri at d (UrlStep.Given f) =
     }))
 
 abbrev pub left_by : List ℕ → Bool → ℕ → List ℕ → UrlStep → List ℕ
-left_by s uri at d (UrlStep.Ended n) = d
-left_by s uri at d (UrlStep.Given f) = written d at (value_at s uri f)
+left_by s uri at d (Ok None) = d
+left_by s uri at d (Err r) = d
+left_by s uri at d (Ok (Some f)) = written d at (value_at s uri f)
 
 unfoldable pub taken_of : List ℕ → Bool → Url → ℕ → List ℕ → Result (Option Taken) ℕ
 taken_of s uri u at d = taken_by s uri at d (next_at s uri u)

@@ -7,7 +7,8 @@ ghost use Rattle.byte.specs.Put.{written, after};
 ghost use Rattle.keyvalue.specs.KeyValue.{parameter_at};
 ghost use Rattle.taking.specs.Taking.{keeps, as_url_step, next_at, value_at, taken_of, taken_leaves};
 
-use url_parser::{Found, Stage, Url, UrlStep};
+use setting::Refusal;
+use url_parser::{Found, Stage, Url};
 
 // A setting taken from the text: its kind, the place behind its value in the buffer, the place behind what is packed once it is applied, and how far
 // the text is read.
@@ -27,33 +28,27 @@ fn keeps_value(kind: usize) -> bool
 }
 
 // A parameter of a key-value text in the words of a URI's step.
-fn next_parameter(text: &[u8], at: usize) -> UrlStep
+fn next_parameter(text: &[u8], at: usize) -> Result<Option<Found>, Refusal>
     ensures { result ≡ as_url_step (parameter_at text.now at) }
 {
-    match keyvalue::parameter(text, at) {
-        keyvalue::Step::Done => UrlStep::Ended(0),
-        keyvalue::Step::Refused(n) => UrlStep::Ended(n),
-        keyvalue::Step::Found { key, value, next } => {
-            let stage = Stage::Credentials;
-            let url = Url {
-                stage: stage,
-                at: next,
-            };
-            let found = Found {
-                kind: key.number,
-                from: value.from,
-                to: value.to,
-                len: value.len,
-                fixed: false,
-                next: url,
-            };
-            UrlStep::Given(found)
-        }
+    match keyvalue::parameter(text, at)? {
+        None => Ok(None),
+        Some(p) => Ok(Some(Found {
+            kind: p.key.number,
+            from: p.value.from,
+            to: p.value.to,
+            len: p.value.len,
+            fixed: false,
+            next: Url {
+                stage: Stage::Credentials,
+                at: p.next,
+            },
+        })),
     }
 }
 
 // The flag stays: it is an argument of the public take_setting and of the definitions next_at and value_at, on which theorems of crate demands stand.
-fn next_setting(text: &[u8], uri: bool, u: Url) -> UrlStep
+fn next_setting(text: &[u8], uri: bool, u: Url) -> Result<Option<Found>, Refusal>
     ensures { result ≡ next_at text.now uri u }
 {
     if uri {
@@ -92,9 +87,9 @@ pub fn take_setting(
     ensures decode_after { decode.new ≡ taken_leaves text.now uri u at decode.old }
 {
     match next_setting(text, uri, u) {
-        UrlStep::Ended(0) => Ok(None),
-        UrlStep::Ended(n) => Err(n as usize),
-        UrlStep::Given(f) => {
+        Ok(None) => Ok(None),
+        Err(refusal) => Err(refusal.number() as usize),
+        Ok(Some(f)) => {
             let end = put_value(text, uri, f, decode, at);
             Ok(Some(Taken {
                 kind: f.kind,

@@ -4,10 +4,11 @@
 ghost use Rattle.std.specs.Prelude.{◌≡◌, drop};
 ghost use Rattle.url_parser.specs.Step.{chunk_step, port_step, behind_chunk};
 
-use url_parser::{BRACKET, Found, ONE_HOST, PORT, Stage, Url, UrlStep};
+use setting::Refusal;
+use url_parser::{Found, ONE_HOST, PORT, Stage, Url};
 
 // A chunk's host, read once where it is plain.
-pub fn parse_chunk(s: &[u8], at: usize) -> UrlStep
+pub fn parse_chunk(s: &[u8], at: usize) -> Result<Option<Found>, Refusal>
     ensures { result ≡ chunk_step at (drop at s.now) }
 {
     if byte::at(s, at) == b'[' {
@@ -20,26 +21,26 @@ pub fn parse_chunk(s: &[u8], at: usize) -> UrlStep
             stage: Stage::Port,
             at: to,
         };
-        return UrlStep::Given(Found {
+        return Ok(Some(Found {
             kind: ONE_HOST,
             from: at,
             to,
             len,
             fixed: false,
             next,
-        });
+        }));
     }
     parse_placed(s, at)
 }
 
 // A chunk's host by its place; a bracket fault is told before anything is decoded.
-fn parse_placed(s: &[u8], at: usize) -> UrlStep
+fn parse_placed(s: &[u8], at: usize) -> Result<Option<Found>, Refusal>
     ensures { result ≡ chunk_step at (drop at s.now) }
 {
     let end = uri_chunks::chunk_end(s, at);
     let c = byte::part(s, at, end);
     match uri_chunks::host_place(c) {
-        None => UrlStep::Ended(BRACKET),
+        None => Err(Refusal::Bracket),
         Some(p) => {
             let judged = uri_values::host_param(byte::part(c, p.from, p.to));
             let next = Url {
@@ -69,20 +70,20 @@ fn behind_chunk(s: &[u8], at: usize) -> Url
 }
 
 // The port of the chunk whose host was given: what stands behind its `:`, or 5432.
-pub fn parse_port(s: &[u8], at: usize) -> UrlStep
+pub fn parse_port(s: &[u8], at: usize) -> Result<Option<Found>, Refusal>
     ensures { result ≡ port_step at (drop at s.now) }
 {
     let end = uri_chunks::chunk_end(s, at);
     let next = behind_chunk(s, end);
     if end <= at {
-        return UrlStep::Given(Found {
+        return Ok(Some(Found {
             kind: PORT,
             from: at,
             to: at,
             len: 4,
             fixed: true,
             next,
-        });
+        }));
     }
     let from = at + 1;
     let judged = percent_check::check(byte::part(s, from, end));

@@ -8,9 +8,9 @@ ghost use Rattle.uri_keys.specs.Kind.{param_kind, key_kind};
 // Kinds of settings: a key's number, and one host from a URI. A key that is not UTF-8 gives none.
 const HOST_KEY: usize = 8;
 
-const ONE_HOST: usize = 20;
+pub const ONE_HOST: usize = 20;
 
-const NO_KEY: usize = 21;
+pub const NO_KEY: usize = 21;
 
 // The kind that a key gives, or 21 where it is not UTF-8 once decoded. The known keys are, so that they are read once.
 pub fn parse_key(key: &[u8]) -> usize

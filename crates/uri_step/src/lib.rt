@@ -4,12 +4,10 @@
 ghost use Rattle.std.specs.Prelude.{◌≡◌, drop};
 ghost use Rattle.url_parser.specs.Step.{credentials_step, password_step, host_step, path_step, database_step, params_step, parameter_step, value_step, step_at};
 
-use url_parser::{
-    CLEAN, DBNAME, Found, NO_EQUALS, NO_KEY, NOT_UTF8, ONE_HOST, PASSWORD, Stage, USER, Url,
-    UrlStep,
-};
+use setting::Refusal;
+use url_parser::{DBNAME, Found, NO_KEY, ONE_HOST, PASSWORD, Stage, USER, Url};
 
-pub fn step(s: &[u8], u: Url) -> UrlStep
+pub fn step(s: &[u8], u: Url) -> Result<Option<Found>, Refusal>
     ensures { result ≡ step_at s.now u }
 {
     let stage = u.stage;
@@ -27,7 +25,7 @@ pub fn step(s: &[u8], u: Url) -> UrlStep
 }
 
 // "If an `@` stands anywhere in the rest": the user up to the first `:` before it.
-fn parse_credentials(s: &[u8], at: usize) -> UrlStep
+fn parse_credentials(s: &[u8], at: usize) -> Result<Option<Found>, Refusal>
     ensures { result ≡ credentials_step at (drop at s.now) }
 {
     let end = split::find(s, at, b'@');
@@ -54,7 +52,7 @@ fn parse_credentials(s: &[u8], at: usize) -> UrlStep
 }
 
 // The password, which needn't be UTF-8, up to the same `@`.
-fn parse_password(s: &[u8], at: usize) -> UrlStep
+fn parse_password(s: &[u8], at: usize) -> Result<Option<Found>, Refusal>
     ensures { result ≡ password_step at (drop at s.now) }
 {
     let password = percent_check::check_until(s, at, b'@');
@@ -64,18 +62,18 @@ fn parse_password(s: &[u8], at: usize) -> UrlStep
         stage: Stage::Host,
         at: uri_values::skip(s, end),
     };
-    UrlStep::Given(Found {
+    Ok(Some(Found {
         kind: PASSWORD,
         from: at,
         to: end,
         len: judged.len,
         fixed: false,
         next,
-    })
+    }))
 }
 
 // Chunks of hosts, unless there is none.
-fn parse_host(s: &[u8], at: usize) -> UrlStep
+fn parse_host(s: &[u8], at: usize) -> Result<Option<Found>, Refusal>
     ensures { result ≡ host_step at (drop at s.now) }
 {
     if s.len() <= at {
@@ -87,7 +85,7 @@ fn parse_host(s: &[u8], at: usize) -> UrlStep
     uri_hosts::parse_chunk(s, at)
 }
 
-fn parse_path(s: &[u8], at: usize) -> UrlStep
+fn parse_path(s: &[u8], at: usize) -> Result<Option<Found>, Refusal>
     ensures { result ≡ path_step at (drop at s.now) }
 {
     if byte::at(s, at) != b'/' {
@@ -97,7 +95,7 @@ fn parse_path(s: &[u8], at: usize) -> UrlStep
 }
 
 // The dbname, set only if it is not empty.
-fn parse_database(s: &[u8], at: usize) -> UrlStep
+fn parse_database(s: &[u8], at: usize) -> Result<Option<Found>, Refusal>
     ensures { result ≡ database_step at (drop at s.now) }
 {
     let dbname = percent_check::check_until(s, at, b'?');
@@ -113,34 +111,34 @@ fn parse_database(s: &[u8], at: usize) -> UrlStep
     uri_values::decode(DBNAME, at, end, judged, next)
 }
 
-fn parse_params(s: &[u8], at: usize) -> UrlStep
+fn parse_params(s: &[u8], at: usize) -> Result<Option<Found>, Refusal>
     ensures { result ≡ params_step at (drop at s.now) }
 {
     if byte::at(s, at) != b'?' {
-        return UrlStep::Ended(CLEAN);
+        return Ok(None);
     }
     parse_parameter(s, at + 1)
 }
 
 // One parameter: its `=` is looked for before its key is decoded, and its key is judged before its value.
-fn parse_parameter(s: &[u8], at: usize) -> UrlStep
+fn parse_parameter(s: &[u8], at: usize) -> Result<Option<Found>, Refusal>
     ensures { result ≡ parameter_step at (drop at s.now) }
 {
     if s.len() <= at {
-        return UrlStep::Ended(CLEAN);
+        return Ok(None);
     }
     let end = split::find(s, at, b'=');
     if s.len() <= end {
-        return UrlStep::Ended(NO_EQUALS);
+        return Err(Refusal::NoEquals);
     }
     let kind = uri_keys::parse_key(byte::part(s, at, end));
     if kind == NO_KEY {
-        return UrlStep::Ended(NOT_UTF8);
+        return Err(Refusal::NotUtf8);
     }
     parse_value(s, kind, end + 1)
 }
 
-fn parse_value(s: &[u8], kind: usize, at: usize) -> UrlStep
+fn parse_value(s: &[u8], kind: usize, at: usize) -> Result<Option<Found>, Refusal>
     ensures { result ≡ value_step kind at (drop at s.now) }
 {
     if kind == ONE_HOST {

@@ -5,7 +5,8 @@ ghost use Rattle.std.specs.Prelude.{◌≡◌, drop};
 ghost use Rattle.byte.specs.Put.{written, after};
 ghost use Rattle.url_parser.specs.Step.{give, skipped, host_checked, value_step, value_in};
 
-use url_parser::{Found, NOT_UTF8, ONE_HOST, Stage, Url, UrlStep};
+use setting::Refusal;
+use url_parser::{Found, ONE_HOST, Stage, Url};
 
 // The port of a chunk that has none.
 const DEFAULT_PORT: [u8; 4] = *b"5432";
@@ -22,21 +23,27 @@ pub fn put_value(s: &[u8], f: Found, dst: &mut [u8], at: usize) -> usize
     percent_decode::decode(byte::part(s, f.from, f.to), dst, at)
 }
 
-// A setting whose value was judged: it is given, or the reading ends with 12.
-pub fn decode(kind: usize, from: usize, to: usize, c: percent_check::Checked, next: Url) -> UrlStep
+// A setting whose value was judged: it is given, or the reading is refused.
+pub fn decode(
+    kind: usize,
+    from: usize,
+    to: usize,
+    c: percent_check::Checked,
+    next: Url,
+) -> Result<Option<Found>, Refusal>
     ensures { result ≡ give kind from to c next }
 {
     if c.utf8 {
-        return UrlStep::Given(Found {
+        return Ok(Some(Found {
             kind,
             from,
             to,
             len: c.len,
             fixed: false,
             next,
-        });
+        }));
     }
-    UrlStep::Ended(NOT_UTF8)
+    Err(Refusal::NotUtf8)
 }
 
 // Behind the byte at a place, unless the text ends there.
@@ -62,7 +69,7 @@ pub fn host_param(v: &[u8]) -> percent_check::Checked
 }
 
 // One host, which may be a Unix path; any other value must be UTF-8.
-pub fn parse_one_host(s: &[u8], at: usize) -> UrlStep
+pub fn parse_one_host(s: &[u8], at: usize) -> Result<Option<Found>, Refusal>
     ensures { result ≡ value_step 20 at (drop at s.now) }
 {
     let end = split::find(s, at, b'&');

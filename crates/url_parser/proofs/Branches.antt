@@ -1,5 +1,6 @@
 -- What a step's definition comes to on each way through the code, in the code's own places.
 -- Assumes nothing.
+use Rattle.setting.specs.declared.Refusal.TheVariants.{Bracket, NoEquals, NotUtf8}
 use Rattle.std.proofs.Common.{Option, Some, None}
 use Prim.Native.Nat.{ℕ, ◌+◌, ◌≤◌, ◌<◌, ◌-◌}
 use mathlib.Core.Path.{◌≡◌, refl, ap, sym, ◌∙◌, subst}
@@ -24,10 +25,9 @@ use Rattle.url_parser.specs.declared.Stage.{Stage}
 use Rattle.url_parser.specs.declared.Stage.TheVariants.{Password, Host, Chunk, Port, Path, Params, Parameter}
 use Rattle.url_parser.specs.declared.Url.{Url}
 use Rattle.url_parser.specs.declared.Found.{Found}
-use Rattle.url_parser.specs.declared.UrlStep.TheVariants.{Given, Ended}
 use Rattle.url_parser.specs.declared.HostPlace.{HostPlace}
 use Rattle.url_parser.specs.Uri.{has, beyond, first_of, host_fits, closes, ends_hosts}
-use Rattle.url_parser.specs.Step.{url, found, give, skipped, host_checked, key_kind, value_checked, value_step, key_step, parameter_step, params_step, database_step, path_step, chunk_end, behind_chunk, fixed_port, port_step, place, closing, host_place, placed_step, chunk_step, host_step, password_step, user_end, credentials_step, stage_step, step_at, value_in}
+use Rattle.url_parser.specs.Step.{given, over, refused, url, found, give, skipped, host_checked, key_kind, value_checked, value_step, key_step, parameter_step, params_step, database_step, path_step, chunk_end, behind_chunk, fixed_port, port_step, place, closing, host_place, placed_step, chunk_step, host_step, password_step, user_end, credentials_step, stage_step, step_at, value_in}
 use Rattle.url_parser.proofs.Places.{front-byte, part-front, part-shift, part-take, part-start, of-here, of-on, of_end}
 
 or-true : (t : Bool) → t || true ≡ true
@@ -128,7 +128,7 @@ module _ (at : ℕ) (s : List ℕ) where
   unfolding params_step
   params-some e = rw (front-is 63 e, behind-one)
 
-  pub params_none : (get_or s at 0 ≡ 63 → ⊥) → params_step at (drop at s) ≡ Ended 0
+  pub params_none : (get_or s at 0 ≡ 63 → ⊥) → params_step at (drop at s) ≡ over
   unfolding params_step
   params_none e = rw (front-not 63 e)
 
@@ -147,7 +147,7 @@ module _ (at : ℕ) (s : List ℕ) where
       let z : first_of ends_hosts (drop at s) ≡ 0 → ⊥ = λ q. absurd (omega (arith, of-on ends_hosts s at h e)) in
       rw (ne_eqb _ _ z)
 
-  pub parameter-none : length s ≤ at → parameter_step at (drop at s) ≡ Ended 0
+  pub parameter-none : length s ≤ at → parameter_step at (drop at s) ≡ over
   unfolding parameter_step
   parameter-none h = let z : length (drop at s) ≤ 0 = omega (arith, length-drop at s) in rw (le-ltb _ _ z)
 
@@ -167,7 +167,7 @@ module _ (at : ℕ) (s : List ℕ) where
 
     -- a parameter
     module _ (e : end ≡ at + first_at 61 (drop at s)) (h : at < length s) where
-      pub parameter-open : length s ≤ end → parameter_step at (drop at s) ≡ Ended 11
+      pub parameter-open : length s ≤ end → parameter_step at (drop at s) ≡ refused NoEquals
       unfolding parameter_step
       parameter-open l =
           let z : length (drop at s) ≤ first_at 61 (drop at s) = omega (arith, length-drop at s) in
@@ -192,7 +192,7 @@ module _ (at : ℕ) (s : List ℕ) where
 
     -- the password
     pub password-given : end ≡ at + first_at 64 (drop at s) → (v : List ℕ) → v ≡ part_of at end s → (len : ℕ) → len ≡ length (decoded v)
-        → (next : ℕ) → next ≡ skipped end (drop end s) → Given (found 2 at end len (url Host next)) ≡ password_step at (drop at s)
+        → (next : ℕ) → next ≡ skipped end (drop end s) → given (found 2 at end len (url Host next)) ≡ password_step at (drop at s)
     unfolding password_step
     password-given e v p len l next n =
         rw (l, p, n, e, part-front at s (first_at 64 (drop at s)), drop-drop (first_at 64 (drop at s)) at s)
@@ -248,7 +248,7 @@ module _ (at : ℕ) (s : List ℕ) where
         unfolding chunk_step
         chunk-placed r h = rw (h, chunk-is)
 
-        pub chunk-fault : (r : Option HostPlace) → r ≡ host_place c → r ≡ None → Ended 10 ≡ chunk_step at (drop at s)
+        pub chunk-fault : (r : Option HostPlace) → r ≡ host_place c → r ≡ None → refused Bracket ≡ chunk_step at (drop at s)
         unfolding placed_step
         chunk-fault r h f = sym (chunk-placed r h ∙ rw f)
 
@@ -291,7 +291,7 @@ module _ (at : ℕ) (s : List ℕ) where
             rw (ne_eqb _ _ z, i, next-is, e)
 
 -- a key that is not UTF-8, and one that is
-pub key-bad : (at : ℕ) (t : List ℕ) (kind : ℕ) → kind ≡ 21 → key_step kind at t ≡ Ended 12
+pub key-bad : (at : ℕ) (t : List ℕ) (kind : ℕ) → kind ≡ 21 → key_step kind at t ≡ refused NotUtf8
 unfolding key_step
 key-bad at t kind e = rw (eq-eqb _ _ e)
 

@@ -12,8 +12,7 @@ use Rattle.percent_check.specs.declared.Part.{Part}
 use Rattle.percent_check.specs.Plain.{checked}
 use Rattle.percent_check.specs.Plain.{checked_until}
 use Rattle.url_parser.specs.declared.Stage.TheVariants.{Password, Host, Params, Parameter}
-use Rattle.url_parser.specs.declared.UrlStep.TheVariants.{Given}
-use Rattle.url_parser.specs.Step.{url, found, give, skipped, value_step, database_step, params_step, password_step, credentials_step}
+use Rattle.url_parser.specs.Step.{given, url, found, give, skipped, value_step, database_step, params_step, password_step, credentials_step}
 use Rattle.url_parser.proofs.Branches.{value-given, database-some, database-none, password-given, user-first, user-only}
 
 -- what the scan tells: where the part ends, and its judgement
@@ -37,7 +36,7 @@ module _ (at : ℕ) (s : List ℕ) (r : Part) where
   database-judged e h = database-some at s r.end (ends_at 63 at s r e) h (part_of at r.end s) refl r.judged (judged-is 63 at s r e)
 
   pub password-judged : r ≡ checked_until 64 at s → (next : ℕ) → next ≡ skipped r.end (drop r.end s)
-      → Given (found 2 at r.end r.judged.len (url Host next)) ≡ password_step at (drop at s)
+      → given (found 2 at r.end r.judged.len (url Host next)) ≡ password_step at (drop at s)
   password-judged e next n =
       password-given at s r.end (ends_at 64 at s r e) (part_of at r.end s) refl r.judged.len (ap (λ (c : Checked). c.len) (judged-is 64 at s r e)) next n
 

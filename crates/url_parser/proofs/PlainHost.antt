@@ -19,9 +19,8 @@ use Rattle.percent_check.specs.Plain.{checked}
 use Rattle.percent_check.specs.Plain.{plain_until}
 use Rattle.percent_check.proofs.Runs.{run_more, whole_plain}
 use Rattle.url_parser.specs.declared.Stage.TheVariants.{Port}
-use Rattle.url_parser.specs.declared.UrlStep.TheVariants.{Given}
 use Rattle.url_parser.specs.Uri.{first_of, ends_hosts}
-use Rattle.url_parser.specs.Step.{url, found, give, ends_chunk, chunk_end, ends_host, ends_plain_host, place, host_place, host_checked, placed_step, chunk_step}
+use Rattle.url_parser.specs.Step.{given, over, url, found, give, ends_chunk, chunk_end, ends_host, ends_plain_host, place, host_place, host_checked, placed_step, chunk_step}
 use Rattle.url_parser.proofs.Places.{front-byte, part-start, of_end}
 use Rattle.url_parser.proofs.Branches.{place-plain, host-utf8}
 
@@ -146,7 +145,7 @@ module _ (at : ℕ) (s : List ℕ) (to : ℕ) (p : to ≡ at + first_of ends_pla
   placed : host_place c ≡ Some (place 0 (to - at) (to - at))
   placed = sym (place-plain c (front-not (chunk_end t) t (λ (z : get_or t 0 0 ≡ 91). h (sym (front-byte at s) ∙ z))) (to - at) (sym (zero-add _ ∙ ends_there)))
 
-  pub chunk-plain : Given (found 20 at to (to - at) (url Port to)) ≡ chunk_step at (drop at s)
+  pub chunk-plain : given (found 20 at to (to - at) (url Port to)) ≡ chunk_step at (drop at s)
   unfolding chunk_step placed_step give
   chunk-plain =
       let n : ℕ = to - at in
@@ -154,5 +153,5 @@ module _ (at : ℕ) (s : List ℕ) (to : ℕ) (p : to ≡ at + first_of ends_pla
       sym
       (ap (placed_step at c) placed
       ∙ ap (λ (j : Checked). give 20 (at + 0) (at + n) j (url Port (at + n))) (sym host-judged)
-      ∙ ap (λ (i : ℕ). Given (found 20 i (at + n) n (url Port (at + n)))) (add-zero at)
-      ∙ ap (λ (i : ℕ). Given (found 20 at i n (url Port i))) q)
+      ∙ ap (λ (i : ℕ). given (found 20 i (at + n) n (url Port (at + n)))) (add-zero at)
+      ∙ ap (λ (i : ℕ). given (found 20 at i n (url Port i))) q)

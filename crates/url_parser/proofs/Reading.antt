@@ -1,6 +1,9 @@
 -- A step and the reading say the same: what a reader's loop cites. A step gives the reading's next setting and leaves the rest of the reading, or tells its end.
 -- Assumes nothing.
-use Rattle.std.proofs.Common.{Option, Some, None}
+use Rattle.setting.specs.declared.Refusal.TheVariants.{NoEquals, NotUtf8}
+use Rattle.std.proofs.Common.{Option, Some, None, Ok, Err}
+use Rattle.setting.specs.declared.Refusal.{Refusal}
+use Rattle.setting.specs.Refusal.{refusal_number}
 use Prim.Native.Nat.{ℕ, zero, suc, ◌+◌, ◌*◌, ◌≤◌, ◌<◌, ◌-◌}
 use mathlib.Core.Path.{◌≡◌, refl, ap, sym, subst, ◌∙◌}
 use mathlib.Core.Bool.{Bool, true, false}
@@ -27,11 +30,9 @@ use Rattle.url_parser.specs.declared.Stage.{Stage}
 use Rattle.url_parser.specs.declared.Stage.TheVariants.{Credentials, Password, Host, Chunk, Port, Path, Params, Parameter}
 use Rattle.url_parser.specs.declared.Url.{Url}
 use Rattle.url_parser.specs.declared.Found.{Found}
-use Rattle.url_parser.specs.declared.UrlStep.{UrlStep}
-use Rattle.url_parser.specs.declared.UrlStep.TheVariants.{Given, Ended}
 use Rattle.url_parser.specs.declared.HostPlace.{HostPlace}
 use Rattle.url_parser.specs.Uri.{has, up_to, beyond, first_of, text, host_fits, host, value, parameter, parameters, params, dbname, database, path, port, ends_hosts, host_chunks, hosts, password, credentials, uri}
-use Rattle.url_parser.specs.Step.{url, found, give, skipped, host_checked, param_kind, key_kind, value_step, key_step, parameter_step, params_step, database_step, path_step, ends_chunk, chunk_end, behind_chunk, fixed_port, port_step, host_place, placed_step, chunk_step, host_step, password_step, user_end, credentials_step, stage_step, step_at, value_in, port_and_on, stage_reading, reading_from}
+use Rattle.url_parser.specs.Step.{given, over, refused, UrlStep, url, found, give, skipped, host_checked, param_kind, key_kind, value_step, key_step, parameter_step, params_step, database_step, path_step, ends_chunk, chunk_end, behind_chunk, fixed_port, port_step, host_place, placed_step, chunk_step, host_step, password_step, user_end, credentials_step, stage_step, step_at, value_in, port_and_on, stage_reading, reading_from}
 use Rattle.url_parser.proofs.Places.{front-byte, part-front, part-shift, part-take, drop-take, drop-skipped, skip-from, skip-within, of-most, first-drop}
 use Rattle.uri_keys.proofs.Keys.{key-most, kind-most, setting-most, user-one, password-two, dbname-three, port-ten}
 use Rattle.url_parser.proofs.Branches.{Ordered, place-ordered}
@@ -69,15 +70,16 @@ pub record Gives (s : List ℕ) (at m : ℕ) (R : Reading) (f : Found) : Type 0 
   pub falls : left s f.next < m
 
 abbrev pub Says : List ℕ → ℕ → ℕ → Reading → UrlStep → Type 0
-Says s at m R (Given f) = Gives s at m R f
-Says s at m R (Ended n) = R ≡ ends n
+Says s at m R (Ok (Some f)) = Gives s at m R f
+Says s at m R (Ok None) = R ≡ ends 0
+Says s at m R (Err r) = R ≡ ends (refusal_number r)
 
 true-false : true ≡ false → ⊥
 true-false e = let z : ◌≡◌ {A = ℕ} 0 1 = cc in omega arith
 
 -- the same reading, seen from an earlier place
 further : (s : List ℕ) (at m : ℕ) (R : Reading) (at₀ m₀ : ℕ) (R₀ : Reading) (step : UrlStep) → at₀ ≤ at → m ≤ m₀ → R₀ ≡ R → Says s at m R step → Says s at₀ m₀ R₀ step
-further s at m R at₀ m₀ R₀ (Given f) a b e g =
+further s at m R at₀ m₀ R₀ (Ok (Some f)) a b e g =
     record {
       setting = g.setting;
       kind = g.kind;
@@ -93,7 +95,8 @@ further s at m R at₀ m₀ R₀ (Given f) a b e g =
       port-only = g.port-only;
       falls = omega (arith, g.falls);
     }
-further s at m R at₀ m₀ R₀ (Ended n) a b e g = e ∙ g
+further s at m R at₀ m₀ R₀ (Ok None) a b e g = e ∙ g
+further s at m R at₀ m₀ R₀ (Err r) a b e g = e ∙ g
 
 -- a setting whose value is a part of the text, and that is given where ok says so
 module _ (s : List ℕ) (at m : ℕ) (R : Reading) (kind from to : ℕ) (next : Url) (v : List ℕ) (p : part_of from to s ≡ v) (ok : Bool) (σ : Setting) where
@@ -123,7 +126,7 @@ module _ (s : List ℕ) (at m : ℕ) (R : Reading) (kind from to : ℕ) (next : 
     give-says e = by ok e
       where
         by : (t : Bool) → R ≡ pick t (follows σ (reading_from s next)) (ends 12)
-            → Says s at m R (pick t (Given (found kind from to (length (decoded v)) next)) (Ended 12))
+            → Says s at m R (pick t (given (found kind from to (length (decoded v)) next)) (refused NotUtf8))
         by true q = found-says q
         by false q = q
 
@@ -203,14 +206,14 @@ module _ (s : List ℕ) where
     parameter-says = by (ltb 0 (length (drop at s))) refl
       where
         marked : (b : Bool) → has 61 (drop at s) ≡ b
-            → Says s at (2 * (length s - at)) (pick b (pick (well_formed key) (value key (up_to 38 (beyond 61 (drop at s))) rest) (ends 12)) (ends 11)) (pick b (key_step (key_kind key) (at + equals + 1) (beyond 61 (drop at s))) (Ended 11))
+            → Says s at (2 * (length s - at)) (pick b (pick (well_formed key) (value key (up_to 38 (beyond 61 (drop at s))) rest) (ends 12)) (ends 11)) (pick b (key_step (key_kind key) (at + equals + 1) (beyond 61 (drop at s))) (refused NoEquals))
         marked true e = key-says (ltb-true _ _ e) (well_formed key)
         marked false e = refl
 
         by : (b : Bool) → ltb 0 (length (drop at s)) ≡ b
-            → Says s at (2 * (length s - at)) (parameters (drop at s)) (pick b (pick (has 61 (drop at s)) (key_step (key_kind key) (at + equals + 1) (beyond 61 (drop at s))) (Ended 11)) (Ended 0))
+            → Says s at (2 * (length s - at)) (parameters (drop at s)) (pick b (pick (has 61 (drop at s)) (key_step (key_kind key) (at + equals + 1) (beyond 61 (drop at s))) (refused NoEquals)) (over))
         by true e =
-            further s at (2 * (length s - at)) _ at (2 * (length s - at)) _ (pick (has 61 (drop at s)) (key_step (key_kind key) (at + equals + 1) (beyond 61 (drop at s))) (Ended 11))
+            further s at (2 * (length s - at)) _ at (2 * (length s - at)) _ (pick (has 61 (drop at s)) (key_step (key_kind key) (at + equals + 1) (beyond 61 (drop at s))) (refused NoEquals))
             (omega arith) (omega arith) (parameters-first (drop at s) (ltb-true 0 _ e)) (marked (has 61 (drop at s)) refl)
         by false e = parameters-none (drop at s) (ltb-false 0 _ e)
 
@@ -223,7 +226,7 @@ module _ (s : List ℕ) where
   params-says at h = by (eqb (get_or (drop at s) 0 0) 63) refl
     where
       by : (b : Bool) → eqb (get_or (drop at s) 0 0) 63 ≡ b
-          → Says s at (2 * (length s - at)) (pick b (parameters (drop 1 (drop at s))) (ends 0)) (pick b (parameter_step (at + 1) (drop 1 (drop at s))) (Ended 0))
+          → Says s at (2 * (length s - at)) (pick b (parameters (drop 1 (drop at s))) (ends 0)) (pick b (parameter_step (at + 1) (drop 1 (drop at s))) (over))
       by true e =
           let w : at < length s = byte-within at h 63 refl e in
           rw (drop-drop 1 at s)
@@ -522,11 +525,14 @@ module _ (s : List ℕ) where
   step-says u h = stage-says u.stage u.at h
 
   -- in the words of a reader's loop: the step gave a setting, or told the end
-  pub reading_step : (u : Url) (f : Found) → u.at ≤ length s → step_at s u ≡ Given f → Gives s u.at (left s u) (reading_from s u) f
+  pub reading_step : (u : Url) (f : Found) → u.at ≤ length s → step_at s u ≡ given f → Gives s u.at (left s u) (reading_from s u) f
   reading_step u f h e = subst (Says s u.at (left s u) (reading_from s u)) e (step-says u h)
 
-  pub reading-end : (u : Url) (n : ℕ) → u.at ≤ length s → step_at s u ≡ Ended n → reading_from s u ≡ ends n
-  reading-end u n h e = subst (Says s u.at (left s u) (reading_from s u)) e (step-says u h)
+  pub reading-over : (u : Url) → u.at ≤ length s → step_at s u ≡ over → reading_from s u ≡ ends 0
+  reading-over u h e = subst (Says s u.at (left s u) (reading_from s u)) e (step-says u h)
+
+  pub reading-refused : (u : Url) (r : Refusal) → u.at ≤ length s → step_at s u ≡ refused r → reading_from s u ≡ ends (refusal_number r)
+  reading-refused u r h e = subst (Says s u.at (left s u) (reading_from s u)) e (step-says u h)
 
   -- behind the prefix, the whole is left
   pub reading-start : (at : ℕ) → reading_from s (url Credentials at) ≡ uri (drop at s)
@@ -544,11 +550,12 @@ module _ (s : List ℕ) where
     where
       by : (step : UrlStep) → Says s u.at (left s u) (reading_from s u) step
           → ((w : Url) → w.at ≤ length s → left s w < n → length (reading_from s w).settings ≤ left s w) → length (reading_from s u).settings ≤ left s u
-      by (Given f) g below =
+      by (Ok (Some f)) g below =
           let b : left s f.next < left s u = g.falls in
           let r : length (reading_from s f.next).settings ≤ left s f.next = below f.next g.inside (omega arith) in
           rw g.reads (omega (arith, b, r))
-      by (Ended m) e below = rw e (omega arith)
+      by (Ok None) e below = rw e (omega arith)
+      by (Err r) e below = rw e (omega arith)
 
   pub settings-most : (u : Url) → u.at ≤ length s → length (reading_from s u).settings ≤ left s u
   settings-most u h = settings-below (suc (left s u)) u h (omega arith)

@@ -1,6 +1,6 @@
 -- What one step of the reading of a URI answers: t is the text from the place at on, and every place in an answer is counted from the whole text's start.
 -- Assumes nothing.
-use Rattle.std.specs.Prelude.{ℕ, ◌+◌, Bool, true, false, ◌&&◌, ◌||◌, List, eqb, ltb, leb, length, take, drop, get_or, Option, Some, None}
+use Rattle.std.specs.Prelude.{ℕ, ◌+◌, Bool, true, false, ◌&&◌, ◌||◌, List, eqb, ltb, leb, length, take, drop, get_or, Option, Some, None, Result, Ok, Err}
 use Rattle.byte.specs.Ascii.{bytes}
 use Rattle.byte.specs.Byte.{pick, part_of}
 use Rattle.split.specs.Split.{first_at}
@@ -13,10 +13,23 @@ use Rattle.url_parser.specs.declared.Stage.{Stage}
 use Rattle.url_parser.specs.declared.Stage.TheVariants.{Credentials, Password, Host, Chunk, Port, Path, Params, Parameter}
 use Rattle.url_parser.specs.declared.Url.{Url}
 use Rattle.url_parser.specs.declared.Found.{Found}
-use Rattle.url_parser.specs.declared.UrlStep.{UrlStep}
-use Rattle.url_parser.specs.declared.UrlStep.TheVariants.{Given, Ended}
+use Rattle.setting.specs.declared.Refusal.{Refusal}
+use Rattle.setting.specs.declared.Refusal.TheVariants.{Bracket, NoEquals, NotUtf8}
 use Rattle.url_parser.specs.declared.HostPlace.{HostPlace}
 use Rattle.url_parser.specs.Uri.{has, up_to, beyond, first_of, host_fits, closes, ends_hosts, port, host_chunks, hosts, path, params, parameters, password, uri}
+
+-- a step gives a setting, tells the clean end, or refuses
+abbrev pub UrlStep : Type 0
+UrlStep = Result (Option Found) Refusal
+
+abbrev pub given : Found → UrlStep
+given f = Ok (Some f)
+
+abbrev pub over : UrlStep
+over = Ok None
+
+abbrev pub refused : Refusal → UrlStep
+refused r = Err r
 
 abbrev pub url : Stage → ℕ → Url
 url stage at = record { stage = stage; at = at }
@@ -27,7 +40,7 @@ found kind from to len next = record { kind = kind; from = from; to = to; len = 
 
 -- a setting whose value was judged, or 12
 unfoldable pub give : ℕ → ℕ → ℕ → Checked → Url → UrlStep
-give kind from to c next = pick c.utf8 (Given (found kind from to c.len next)) (Ended 12)
+give kind from to c next = pick c.utf8 (given (found kind from to c.len next)) (refused NotUtf8)
 
 -- behind the byte that t begins with, unless t is empty
 unfoldable pub skipped : ℕ → List ℕ → ℕ
@@ -45,16 +58,16 @@ value_step kind at t =
     give kind at (at + first_at 38 t) (value_checked kind (up_to 38 t)) (url Parameter (skipped (at + first_at 38 t) (drop (first_at 38 t) t)))
 
 unfoldable pub key_step : ℕ → ℕ → List ℕ → UrlStep
-key_step kind at t = pick (eqb kind 21) (Ended 12) (value_step kind at t)
+key_step kind at t = pick (eqb kind 21) (refused NotUtf8) (value_step kind at t)
 
 unfoldable pub parameter_step : ℕ → List ℕ → UrlStep
 parameter_step at t =
     pick (ltb 0 (length t))
-    (pick (has 61 t) (key_step (key_kind (decoded (up_to 61 t))) (at + first_at 61 t + 1) (beyond 61 t)) (Ended 11))
-    (Ended 0)
+    (pick (has 61 t) (key_step (key_kind (decoded (up_to 61 t))) (at + first_at 61 t + 1) (beyond 61 t)) (refused NoEquals))
+    (over)
 
 unfoldable pub params_step : ℕ → List ℕ → UrlStep
-params_step at t = pick (eqb (get_or t 0 0) 63) (parameter_step (at + 1) (drop 1 t)) (Ended 0)
+params_step at t = pick (eqb (get_or t 0 0) 63) (parameter_step (at + 1) (drop 1 t)) (over)
 
 unfoldable pub database_step : ℕ → List ℕ → UrlStep
 database_step at t =
@@ -85,7 +98,7 @@ behind_chunk at t = pick (eqb (get_or t 0 0) 44) (url Chunk (at + 1)) (url Path 
 
 -- a port that is not written
 abbrev pub fixed_port : ℕ → Url → UrlStep
-fixed_port at next = Given (record { kind = 10; from = at; to = at; len = 4; fixed = true; next = next })
+fixed_port at next = given (record { kind = 10; from = at; to = at; len = 4; fixed = true; next = next })
 
 unfoldable pub port_step : ℕ → List ℕ → UrlStep
 port_step at t =
@@ -109,7 +122,7 @@ host_place c =
     (Some (place 0 (first_at 58 c) (first_at 58 c)))
 
 unfoldable pub placed_step : ℕ → List ℕ → Option HostPlace → UrlStep
-placed_step at c None = Ended 10
+placed_step at c None = refused Bracket
 placed_step at c (Some p) = give 20 (at + p.from) (at + p.to) (host_checked (part_of p.from p.to c)) (url Port (at + p.tail))
 
 unfoldable pub chunk_step : ℕ → List ℕ → UrlStep
@@ -120,7 +133,7 @@ host_step at t = pick (eqb (first_of ends_hosts t) 0) (path_step at t) (chunk_st
 
 unfoldable pub password_step : ℕ → List ℕ → UrlStep
 password_step at t =
-    Given (found 2 at (at + first_at 64 t) (length (decoded (up_to 64 t))) (url Host (skipped (at + first_at 64 t) (drop (first_at 64 t) t))))
+    given (found 2 at (at + first_at 64 t) (length (decoded (up_to 64 t))) (url Host (skipped (at + first_at 64 t) (drop (first_at 64 t) t))))
 
 -- where the user ends: before the first `:`, or with the credentials
 abbrev pub user_end : List ℕ → ℕ

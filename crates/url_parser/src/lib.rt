@@ -4,6 +4,8 @@
 ghost use Rattle.std.specs.Prelude.{◌≡◌};
 ghost use Rattle.url_parser.specs.Step.{url};
 
+pub use uri_keys::{NO_KEY, ONE_HOST};
+
 // What stands at the place that is read next.
 #[derive(Clone, Copy)]
 pub enum Stage {
@@ -36,13 +38,6 @@ pub struct Found {
     pub next: Url,
 }
 
-// A step gives a setting, or tells the reading's end.
-#[derive(Clone, Copy)]
-pub enum UrlStep {
-    Given(Found),
-    Ended(u8),
-}
-
 // Where in a chunk its host stands, and where what follows the host begins.
 #[derive(Clone, Copy, Debug, PartialEq, Eq, Hash)]
 pub struct HostPlace {
@@ -59,19 +54,6 @@ pub const PASSWORD: usize = 2;
 pub const DBNAME: usize = 3;
 
 pub const PORT: usize = 10;
-
-pub const ONE_HOST: usize = 20;
-
-pub const NO_KEY: usize = 21;
-
-// Ends of a reading.
-pub const CLEAN: u8 = 0;
-
-pub const BRACKET: u8 = 10;
-
-pub const NO_EQUALS: u8 = 11;
-
-pub const NOT_UTF8: u8 = 12;
 
 // Reading begins behind the prefix.
 pub fn start(at: usize) -> Url
