@@ -14,9 +14,8 @@ use Rattle.utf8.specs.Utf8.{well_formed}
 use Rattle.names.specs.Names.{key_names}
 use Rattle.names.specs.Find.{among, number_in, key_number, prefix_len}
 use Rattle.setting.specs.Setting.{Setting, keyed, one_host, kind_of, value_of, Reading}
-use Rattle.keyvalue.specs.declared.Step.{Step}
-use Rattle.keyvalue.specs.declared.Step.TheVariants.{Done, Refused, Found}
-use Rattle.keyvalue.specs.KeyValue.{parameter_at, reads, key_value_from, key_value}
+use Rattle.std.proofs.Common.{Ok, Err, Some, None}
+use Rattle.keyvalue.specs.KeyValue.{Step, parameter_at, reads, key_value_from, key_value}
 use Rattle.url_parser.proofs.Reading.{uri-most}
 use Rattle.url_parser.specs.Uri.{uri}
 use Rattle.std.specs.Prelude.{Result, Ok, Err, ⊤}
@@ -76,9 +75,9 @@ kind-most (one_host v) = omega arith
 -- a reading has at most two settings for each byte, and two more
 reads-most : (s : List ℕ) (st : Step) (on : ℕ → Reading) (m : ℕ) → ((n : ℕ) → length (on n).settings ≤ m) → length (reads s st on).settings ≤ suc m
 unfolding reads
-reads-most s Done on m h = omega arith
-reads-most s (Refused n) on m h = omega arith
-reads-most s (Found key value next) on m h = let g : length (on next).settings ≤ m = h next in omega arith
+reads-most s (Ok None) on m h = omega arith
+reads-most s (Err r) on m h = omega arith
+reads-most s (Ok (Some p)) on m h = let g : length (on p.next).settings ≤ m = h p.next in omega arith
 
 pairs-most : (k : ℕ) (s : List ℕ) → length (key_value_from k s).settings ≤ length s
 unfolding key_value_from

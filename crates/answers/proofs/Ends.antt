@@ -16,10 +16,11 @@ use Rattle.names.specs.Find.{prefix_len}
 use Rattle.setting.specs.Setting.{Setting, keyed, one_host, Reading, ends, follows}
 use Rattle.keyvalue.specs.declared.Key.{Key}
 use Rattle.keyvalue.specs.declared.Raw.{Raw}
-use Rattle.keyvalue.specs.declared.Step.{Step}
-use Rattle.keyvalue.specs.declared.Step.TheVariants.{Done, Refused, Found}
+use Rattle.std.proofs.Common.{Ok, Err, Some, None}
+use Rattle.setting.specs.declared.Refusal.{Refusal}
+use Rattle.setting.specs.Refusal.{refusal_number}
 use Rattle.keyvalue.specs.Scan.{end_of, space_len, key_len, quoted_len, simple_len}
-use Rattle.keyvalue.specs.KeyValue.{key_of, raw_at, quoted_at, simple_at, value_at, sign_at, key_at, parameter_at, reads, key_value_from, key_value}
+use Rattle.keyvalue.specs.KeyValue.{Step, clean, broken, pair, key_of, raw_at, quoted_at, simple_at, value_at, sign_at, key_at, parameter_at, reads, key_value_from, key_value}
 use Rattle.url_parser.specs.Uri as uri
 use Rattle.outcome.specs.Outcome.{reading}
 
@@ -38,9 +39,9 @@ pick_end false h g = g
 
 -- key-value: what a step refuses with
 data StepEnd : Step → Type 0 where
-  done : StepEnd Done
-  refuses : {n : ℕ} → n ≤ 12 → StepEnd (Refused n)
-  finds : {key : Key} {value : Raw} {next : ℕ} → StepEnd (Found key value next)
+  done : StepEnd clean
+  refuses : {r : Refusal} → refusal_number r ≤ 12 → StepEnd (broken r)
+  finds : {key : Key} {value : Raw} {next : ℕ} → StepEnd (pair key value next)
 
 pick-step : (t : Bool) {x y : Step} → StepEnd x → StepEnd y → StepEnd (pick t x y)
 pick-step true h g = h
@@ -76,9 +77,9 @@ step_end s at = key-end s (end_of space_len s at)
 
 reads_end : (s : List ℕ) (st : Step) (go : ℕ → Reading) → StepEnd st → ((n : ℕ) → End (go n)) → End (reads s st go)
 unfolding reads
-reads_end s Done go h g = stop 0 (omega arith)
-reads_end s (Refused n) go (refuses h) g = stop n h
-reads_end s (Found key value next) go h g = on _ (g next)
+reads_end s (Ok None) go h g = stop 0 (omega arith)
+reads_end s (Err r) go (refuses h) g = stop (refusal_number r) h
+reads_end s (Ok (Some p)) go h g = on _ (g p.next)
 
 pairs_end : (k : ℕ) (s : List ℕ) → End (key_value_from k s)
 unfolding key_value_from

@@ -24,9 +24,8 @@ use Rattle.keyvalue.specs.KeyValue.{unescaped_from, key_value}
 use Rattle.url_parser.specs.declared.Stage.{Stage}
 use Rattle.url_parser.specs.declared.Url.{Url}
 use Rattle.url_parser.specs.declared.Found.{Found}
-use Rattle.url_parser.specs.declared.UrlStep.{UrlStep}
-use Rattle.url_parser.specs.declared.UrlStep.TheVariants.{Given, Ended}
-use Rattle.url_parser.specs.Step.{url, value_in}
+use Rattle.std.proofs.Common.{Ok, Err, Some, None}
+use Rattle.url_parser.specs.Step.{UrlStep, url, value_in}
 use Rattle.url_parser.specs.Uri.{uri}
 use Rattle.url_parser.proofs.Reading.{reading-start}
 use Rattle.telling.specs.Bound.{All}
@@ -34,7 +33,7 @@ use Rattle.telling.specs.Ranged.{Bytes}
 use Rattle.telling.proofs.Shown.{all_take, all_drop}
 use Rattle.outcome.specs.Outcome.{reading}
 use Rattle.taking.specs.Taking.{next_at, value_at}
-use Rattle.taking.proofs.Next.{from, measure, Next, next-found, next-ended}
+use Rattle.taking.proofs.Next.{from, measure, Next, next-found, next-over, next-refused}
 
 -- what holds of both holds of the one that is picked
 pub picked : {A : Type 0} (p : A → Type 0) (t : Bool) (x y : A) → p x → p y → p (pick t x y)
@@ -117,8 +116,9 @@ module _ (s : List ℕ) (bs : Bytes s) where
         by : (step : UrlStep) → next_at s is_uri u ≡ step
             → ((w : Url) → w.at ≤ length s → measure s is_uri w < n → Valued (from s is_uri w).settings)
             → Valued (from s is_uri u).settings
-        by (Ended m) e below = subst (λ (r : Reading). Valued r.settings) (sym (next-ended s is_uri u m h e)) tt
-        by (Given f) e below =
+        by (Ok None) e below = subst (λ (r : Reading). Valued r.settings) (sym (next-over s is_uri u h e)) tt
+        by (Err x) e below = subst (λ (r : Reading). Valued r.settings) (sym (next-refused s is_uri u x h e)) tt
+        by (Ok (Some f)) e below =
             let x : Next s is_uri u f = next-found s is_uri u f h e in
             subst (λ (r : Reading). Valued r.settings) (sym x.reads)
             (subst Bytes (sym x.value) (value-bytes is_uri f), below f.next x.inside (omega (arith, x.falls)))

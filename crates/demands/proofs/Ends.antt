@@ -11,9 +11,9 @@ use lib.ListN.{length, drop}
 use Rattle.byte.specs.Byte.{pick}
 use Rattle.names.specs.Find.{prefix_len}
 use Rattle.setting.specs.Setting.{Reading}
-use Rattle.keyvalue.specs.declared.Step.{Step}
-use Rattle.keyvalue.specs.declared.Step.TheVariants.{Done, Refused, Found}
-use Rattle.keyvalue.specs.KeyValue.{key_value, parameter_at}
+use Rattle.std.proofs.Common.{Ok, Err, Some, None}
+use Rattle.setting.specs.Refusal.{refusal_number}
+use Rattle.keyvalue.specs.KeyValue.{Step, key_value, parameter_at}
 use Rattle.keyvalue.proofs.Stands.{Number, Stands, stands, number}
 use Rattle.keyvalue.proofs.Reading.{reading-done, reading-refused, reading-found}
 use Rattle.url_parser.specs.Uri.{uri}
@@ -34,14 +34,14 @@ module _ (s : List ℕ) where
   pair_ends (suc n) at l = by (parameter_at s at) refl (pair_ends n)
     where
       by : (step : Step) → parameter_at s at ≡ step → ((to : ℕ) → length s - to < n → Ending (key_value (drop to s)).end) → Ending (key_value (drop at s)).end
-      by Done e below = inl (ap (λ (r : Reading). r.end) (reading-done s at e))
-      by (Refused m) e below =
-          let k : Number m = number s at m e in
-          let q : (key_value (drop at s)).end ≡ m = ap (λ (r : Reading). r.end) (reading-refused s at m e) in
+      by (Ok None) e below = inl (ap (λ (r : Reading). r.end) (reading-done s at e))
+      by (Err x) e below =
+          let k : Number (refusal_number x) = number s at x e in
+          let q : (key_value (drop at s)).end ≡ refusal_number x = ap (λ (r : Reading). r.end) (reading-refused s at x e) in
           inr (omega (arith, k.low), omega (arith, k.high))
-      by (Found key value to) e below =
-          let k : Stands s at key value to = stands s at key value to e in
-          subst Ending (ap (λ (r : Reading). r.end) (sym (reading-found s at key value to e))) (below to (omega (arith, k.grows, k.within)))
+      by (Ok (Some p)) e below =
+          let k : Stands s at p.key p.value p.next = stands s at p.key p.value p.next e in
+          subst Ending (ap (λ (r : Reading). r.end) (sym (reading-found s at p.key p.value p.next e))) (below p.next (omega (arith, k.grows, k.within)))
 
   uri-ending : (n : ℕ) → UriEnd n → Ending n
   uri-ending n (inl e) = inl e

@@ -14,15 +14,14 @@ use Rattle.keyvalue.specs.KeyValue.{key_value}
 use Rattle.url_parser.specs.declared.Stage.{Stage}
 use Rattle.url_parser.specs.declared.Url.{Url}
 use Rattle.url_parser.specs.declared.Found.{Found}
-use Rattle.url_parser.specs.declared.UrlStep.{UrlStep}
-use Rattle.url_parser.specs.declared.UrlStep.TheVariants.{Given, Ended}
-use Rattle.url_parser.specs.Step.{url}
+use Rattle.std.proofs.Common.{Ok, Err, Some, None}
+use Rattle.url_parser.specs.Step.{UrlStep, url}
 use Rattle.url_parser.specs.Uri.{uri}
 use Rattle.url_parser.proofs.Reading.{reading-start, left-start}
 use Rattle.taking.specs.Taking.{keeps}
 use Rattle.outcome.specs.Outcome.{kept}
 use Rattle.taking.specs.Taking.{next_at}
-use Rattle.taking.proofs.Next.{from, measure, Next, next-found, next-ended}
+use Rattle.taking.proofs.Next.{from, measure, Next, next-found, next-over, next-refused}
 use Rattle.demands.specs.Giving.{joined}
 
 -- what is kept of a setting: its value or nothing
@@ -55,8 +54,9 @@ module _ (s : List ℕ) (is_uri : Bool) where
   fit-below (suc n) u h l = by (next_at s is_uri u) refl (fit-below n)
     where
       by : (step : UrlStep) → next_at s is_uri u ≡ step → ((w : Url) → w.at ≤ length s → measure s is_uri w < n → Fit w (from s is_uri w)) → Fit u (from s is_uri u)
-      by (Ended m) e below = subst (Fit u) (sym (next-ended s is_uri u m h e)) (omega arith, omega arith)
-      by (Given f) e below =
+      by (Ok None) e below = subst (Fit u) (sym (next-over s is_uri u h e)) (omega arith, omega arith)
+      by (Err x) e below = subst (Fit u) (sym (next-refused s is_uri u x h e)) (omega arith, omega arith)
+      by (Ok (Some f)) e below =
           let x : Next s is_uri u f = next-found s is_uri u f h e in
           fit_found u f x (below f.next x.inside (omega (arith, x.falls)))
 
