@@ -43,6 +43,7 @@ pub fn read_groups(s: &[u8], tail: bool) -> Option<Groups>
     let mut g = Some(groups::no_groups());
     let mut i: usize = 0;
     let mut e = split::find(s, 0, b':');
+    // The place moves by a piece: this loop counts no index.
     while e < s.len() {
         g = groups::push(g, read_group(&s[i..e]));
         i = e + 1;
@@ -65,12 +66,10 @@ pub fn read_side(s: &[u8], tail: bool) -> Option<Groups>
 pub fn find_gap(s: &[u8]) -> usize
     ensures { result ≡ gap_at s.now }
 {
-    let mut i: usize = 0;
-    while i < s.len() {
+    for i in 0..s.len() {
         if byte::stands_at(b"::", i, s) {
             return i;
         }
-        i += 1;
     }
-    i
+    s.len()
 }

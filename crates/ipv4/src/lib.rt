@@ -38,15 +38,13 @@ pub fn read_v4(s: &[u8]) -> Option<u32>
     ensures { result ≡ v4_of s.now }
 {
     let mut v: u32 = 0;
-    let mut left: usize = 3;
     let mut i: usize = 0;
-    while 0 < left {
+    for k in 0..3usize {
         let e = split::find(s, i, b'.');
         if s.len() <= e {
             return None;
         }
         v = with_part(v, read_part(&s[i..e]))?;
-        left -= 1;
         i = e + 1;
     }
     with_part(v, read_part(&s[i..]))

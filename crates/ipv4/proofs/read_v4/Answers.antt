@@ -5,21 +5,19 @@ use lib.Seq.{take_all}
 use Prim.Native.Nat.{ℕ, ◌+◌, ◌-◌}
 use mathlib.Core.Path.{◌≡◌, sym, ap, ◌∙◌}
 use native.Mathlib.Omega.{arith}
-use Rattle.split.specs.Split.{split}
 use Rattle.std.specs.Prelude.{Option, Some, None}
-use Rattle.ipv4.specs.V4.{v4_of, part_of, with_part}
+use Rattle.split.specs.Split.{split}
+use Rattle.ipv4.specs.V4.{part_of, with_part}
 use Rattle.ipv4.proofs.V4.{parts_from, v4-start, parts_more, parts-short, parts_last, parts-refused, roof-most, part_room}
--- in a turn: what was read of the piece, and the whole from behind its dot on
 use Rattle.ipv4.proofs.read_v4.Goals as goal
 
-pub loop-left-init : goal.loop-left-init
-loop-left-init c =
-    (omega arith, omega arith, omega arith, v4-start _)
+pub loop-k-init : goal.loop-k-init
+loop-k-init c =
+    (omega arith, omega arith, v4-start _)
 
 pub returns-then-s-e : goal.returns-then-s-e
 returns-then-s-e c =
-    let l = c in
-    sym (l.loop-left.invariant.3 ∙ parts-short _ _ _ c.find-e.ensures _ _ c.loop-left-test.true c.if-s-e.true)
+    sym (c.loop-k.invariant.2 ∙ parts-short _ _ _ c.find-e.ensures _ _ (omega arith) c.if-s-e.true)
 
 pub slice_bounds-read_part-count : goal.slice_bounds-read_part-count
 slice_bounds-read_part-count c =
@@ -35,48 +33,46 @@ slice_bounds-read_part-end c =
 
 pub returns-in_err-v : goal.returns-in_err-v
 returns-in_err-v c =
-    let l = c.loop-left in
+    let l = c.loop-k in
     let t = c.args.s.now in
     let e = c.find-e.result in
-    let read : (f : Option ℕ) → c.with_part.result ≡ f → with_part l.v (part_of (take (e - l.i) (drop l.i t))) ≡ f = λ f q. sym (c.with_part.ensures ∙ ap (with_part l.v) c.read_part.ensures) ∙ q in
-    let turned : (f : Option ℕ) → c.with_part.result ≡ f → v4_of t ≡ parts_from (l.left - 1) f (split 46 (drop (e + 1) t)) = λ f q.
-    l.invariant.3
-    ∙ parts_more t l.i e c.find-e.ensures (Some l.v) l.left c.loop-left-test.true c.if-s-e.false
-    ∙ ap (λ (f : Option ℕ). parts_from (l.left - 1) f (split 46 (drop (e + 1) t))) (read f q) in
+    let read : with_part l.v (part_of (take (e - l.i) (drop l.i t))) ≡ None = sym (c.with_part.ensures ∙ ap (with_part l.v) c.read_part.ensures) ∙ c.in_err-v.was in
     let none : ◌≡◌ {A = Option ℕ} c.from_residual.result None = c.from_residual.ensures in
-    none ∙ sym (turned _ c.in_err-v.was ∙ parts-refused _ _)
+    none
+    ∙ sym (l.invariant.2
+    ∙ parts_more t l.i e c.find-e.ensures (Some l.v) (3 - l.k) (omega arith) c.if-s-e.false
+    ∙ ap (λ (f : Option ℕ). parts_from (3 - l.k - 1) f (split 46 (drop (e + 1) t))) read
+    ∙ parts-refused _ _)
 
 pub overflow_add-i : goal.overflow_add-i
 overflow_add-i c =
-    let w = c in omega (arith, w.if-s-e.false)
+    omega (arith, c.if-s-e.false)
 
-pub loop-left-preserved : goal.loop-left-preserved
-loop-left-preserved c =
-    let l = c.loop-left in
+pub loop-k-preserved : goal.loop-k-preserved
+loop-k-preserved c =
+    let l = c.loop-k in
     let t = c.args.s.now in
     let e = c.find-e.result in
-    let read : (f : Option ℕ) → c.with_part.result ≡ f → with_part l.v (part_of (take (e - l.i) (drop l.i t))) ≡ f = λ f q. sym (c.with_part.ensures ∙ ap (with_part l.v) c.read_part.ensures) ∙ q in
-    let turned : (f : Option ℕ) → c.with_part.result ≡ f → v4_of t ≡ parts_from (l.left - 1) f (split 46 (drop (e + 1) t)) = λ f q.
-    l.invariant.3
-    ∙ parts_more t l.i e c.find-e.ensures (Some l.v) l.left c.loop-left-test.true c.if-s-e.false
-    ∙ ap (λ (f : Option ℕ). parts_from (l.left - 1) f (split 46 (drop (e + 1) t))) (read f q) in (
+    let n : 3 - l.k - 1 ≡ 3 - (l.k + 1) = omega arith in
+    let read : with_part l.v (part_of (take (e - l.i) (drop l.i t))) ≡ Some c.in_ok-v.v = sym (c.with_part.ensures ∙ ap (with_part l.v) c.read_part.ensures) ∙ c.in_ok-v.was in (
       omega (arith, c.if-s-e.false),
-      omega arith,
-      part_room l.left l.v (take (e - l.i) (drop l.i t)) _ c.loop-left-test.true l.invariant.1 l.invariant.2 (read _ c.in_ok-v.was),
-      turned _ c.in_ok-v.was,
+      rw n at (part_room (3 - l.k) l.v (take (e - l.i) (drop l.i t)) _ (omega arith) (omega arith) l.invariant.1 read),
+      l.invariant.2
+          ∙ parts_more t l.i e c.find-e.ensures (Some l.v) (3 - l.k) (omega arith) c.if-s-e.false
+          ∙ ap (λ (f : Option ℕ). parts_from (3 - l.k - 1) f (split 46 (drop (e + 1) t))) read
+          ∙ ap (λ (m : ℕ). parts_from m (Some c.in_ok-v.v) (split 46 (drop (e + 1) t))) n,
     )
 
 pub with_part-requires : goal.with_part-requires
 with_part-requires c =
-    let l = c in roof-most l.loop-left.left _ l.loop-left.invariant.2
+    roof-most (3 - c.loop-k.k) _ c.loop-k.invariant.1
 
 pub returns : goal.returns
 returns c =
-    let l = c in
-    let s = l.args.s.now in
-    let i = l.loop-left.i in
-    let z : l.loop-left.left ≡ 0 = omega (arith, c.loop-left-test.false) in
-    let n : take (length s - i) (drop i s) ≡ drop i s = take_all (length s - i) (drop i s) (omega (arith, length-drop i s)) in
+    let l = c.loop-k in
+    let s = c.args.s.now in
+    let z : 3 - l.k ≡ 0 = omega (arith, c.loop-k-test.false) in
+    let n : take (length s - l.i) (drop l.i s) ≡ drop l.i s = take_all (length s - l.i) (drop l.i s) (omega (arith, length-drop l.i s)) in
     c.with_part-2.ensures
-    ∙ ap (with_part l.loop-left.v) (c.read_part-2.ensures ∙ ap part_of n)
-    ∙ sym (l.loop-left.invariant.3 ∙ ap (λ (k : ℕ). parts_from k (Some l.loop-left.v) (split 46 (drop i s))) z ∙ parts_last (drop i s) (Some l.loop-left.v))
+    ∙ ap (with_part l.v) (c.read_part-2.ensures ∙ ap part_of n)
+    ∙ sym (l.invariant.2 ∙ ap (λ (k : ℕ). parts_from k (Some l.v) (split 46 (drop l.i s))) z ∙ parts_last (drop l.i s) (Some l.v))
