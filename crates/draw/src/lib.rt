@@ -140,10 +140,8 @@ fn put_escapes(x: &[u8], dst: &mut [u8], pen: Pen) -> Pen
     ensures { sheet dst.new result ≡ drawn (sheet dst.old pen) (text_value x.now) }
 {
     let mut p = pen;
-    let mut i = 0;
-    while i < x.len() {
+    for i in 0..x.len() {
         p = put_escape(x[i], dst, p);
-        i += 1;
     }
     p
 }
