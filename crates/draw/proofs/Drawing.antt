@@ -36,6 +36,14 @@ module _ (d : List ℕ) (p q : Pen) (x : List ℕ) (n : ℕ) (long : n ≡ lengt
   unfolding drawn draw_one
   draw-ink e d' w = rw (e, next, long, w)
 
+  -- and as `part` does it, for a part that what is called writes
+  pub draw-part : (d' : List ℕ) → (p.ok && p.ink ≡ false → d' ≡ d) → (p.ok && p.ink ≡ true → d' ≡ written d p.at x) → sheet d' q ≡ drawn (sheet d p) (x ∷ [])
+  draw-part d' dry ink = by (p.ok && p.ink) refl
+    where
+      by : (t : Bool) → p.ok && p.ink ≡ t → sheet d' q ≡ drawn (sheet d p) (x ∷ [])
+      by true e = draw-ink e d' (ink e)
+      by false e = ap (λ (b : List ℕ). sheet b q) (dry e) ∙ draw-dry e
+
 -- parts behind parts
 pub drawn-append : (s : Sheet) (xs ys : List (List ℕ)) → drawn s (xs ++ ys) ≡ drawn (drawn s xs) ys
 unfolding drawn

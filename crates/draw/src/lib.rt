@@ -1,7 +1,8 @@
 // Bytes in parts, each counted, or written into lent memory, by the same function.
 #![tactic(auto)]
 
-ghost use Rattle.std.specs.Prelude.{◌≡◌, ◌&&◌, false, [], ◌∷◌, ltb, length};
+ghost use Rattle.std.specs.Prelude.{◌≡◌, ◌&&◌, true, false, [], ◌∷◌, ltb, length};
+ghost use Rattle.std.specs.Fn.{FnOnceReturnsAtMut};
 ghost use Rattle.byte.specs.Byte.{pick};
 ghost use Rattle.byte.specs.Put.{written, after};
 ghost use Rattle.names.specs.Names.{key_name, word_name};
@@ -46,93 +47,79 @@ fn writes(pen: Pen) -> bool
     if pen.ok { pen.ink } else { false }
 }
 
+// One part of n bytes: written by `write` where the pen writes, else only counted.
+fn part<F: FnOnce(&mut [u8])>(n: usize, dst: &mut [u8], pen: Pen, write: F) -> Pen
+    requires { F.IsAlwaysCallable write }
+    ensures next { result ≡ moved (length dst.old) pen n }
+    ensures dry { pen.ok && pen.ink ≡ false → dst.new ≡ dst.old }
+    ensures ink { pen.ok && pen.ink ≡ true → FnOnceReturnsAtMut F.FnOnce write dst.old tt dst.new }
+{
+    let next = move_by(pen, n, dst.len());
+    if writes(pen) {
+        write(dst);
+    }
+    next
+}
+
 pub fn put_byte(b: u8, dst: &mut [u8], pen: Pen) -> Pen
     ensures { sheet dst.new result ≡ drawn (sheet dst.old pen) ((b ∷ []) ∷ []) }
 {
-    let next = move_by(pen, 1, dst.len());
-    if !writes(pen) {
-        return next;
-    }
-    let at = pen.at;
-    byte::put(dst, at, b);
-    next
+    part(1, dst, pen, |d| {
+        byte::put(d, pen.at, b);
+    })
 }
 
 // The name of a key.
 pub fn put_key(key: usize, dst: &mut [u8], pen: Pen) -> Pen
     ensures { sheet dst.new result ≡ drawn (sheet dst.old pen) (key_name key ∷ []) }
 {
-    let next = move_by(pen, names::key_len(key), dst.len());
-    if !writes(pen) {
-        return next;
-    }
-    let at = pen.at;
-    names::put_key(key, dst, at);
-    next
+    part(names::key_len(key), dst, pen, |d| {
+        names::put_key(key, d, pen.at);
+    })
 }
 
 // A word of a key.
 pub fn put_word(key: usize, word: usize, dst: &mut [u8], pen: Pen) -> Pen
     ensures { sheet dst.new result ≡ drawn (sheet dst.old pen) (word_name key word ∷ []) }
 {
-    let next = move_by(pen, names::word_len(key, word), dst.len());
-    if !writes(pen) {
-        return next;
-    }
-    let at = pen.at;
-    names::put_word(key, word, dst, at);
-    next
+    part(names::word_len(key, word), dst, pen, |d| {
+        names::put_word(key, word, d, pen.at);
+    })
 }
 
 // A number in decimal.
 pub fn put_number(n: u64, dst: &mut [u8], pen: Pen) -> Pen
     ensures { sheet dst.new result ≡ drawn (sheet dst.old pen) (decimal n ∷ []) }
 {
-    let next = move_by(pen, decimal::decimal_len(n), dst.len());
-    if !writes(pen) {
-        return next;
-    }
-    let at = pen.at;
-    decimal::put_decimal(n, dst, at);
-    next
+    part(decimal::decimal_len(n), dst, pen, |d| {
+        decimal::put_decimal(n, d, pen.at);
+    })
 }
 
 // A group of an IPv6 address.
 pub fn put_group(g: u16, dst: &mut [u8], pen: Pen) -> Pen
     ensures { sheet dst.new result ≡ drawn (sheet dst.old pen) (hex_digits false 4 g ∷ []) }
 {
-    let next = move_by(pen, 4, dst.len());
-    if !writes(pen) {
-        return next;
-    }
-    let at = pen.at;
-    decimal::put_hex4_lower(g, dst, at);
-    next
+    part(4, dst, pen, |d| {
+        decimal::put_hex4_lower(g, d, pen.at);
+    })
 }
 
 // Bytes as they stand.
 pub fn put_bytes(x: &[u8], dst: &mut [u8], pen: Pen) -> Pen
     ensures { sheet dst.new result ≡ drawn (sheet dst.old pen) (x.now ∷ []) }
 {
-    let next = move_by(pen, x.len(), dst.len());
-    if !writes(pen) {
-        return next;
-    }
-    let at = pen.at;
-    byte::copy(x, dst, at);
-    next
+    part(x.len(), dst, pen, |d| {
+        byte::copy(x, d, pen.at);
+    })
 }
 
 pub fn put_escape(b: u8, dst: &mut [u8], pen: Pen) -> Pen
     ensures { sheet dst.new result ≡ drawn (sheet dst.old pen) (escape b ∷ []) }
 {
-    let next = move_by(pen, escape::escape_len(b), dst.len());
-    if !writes(pen) {
-        return next;
-    }
-    let at = pen.at;
-    escape::write_escape(b, dst, at);
-    next
+    part(escape::escape_len(b), dst, pen, |d| {
+        escape::write_escape(b, d, pen.at);
+    })
 }
 
 // A text, byte by byte: as much of it as has room.
