@@ -64,8 +64,9 @@ fn set_probes<R: Print>(rt: &R, c: Config) -> io::Result<Config> {
 }
 
 fn set_lists<R: Print>(rt: &R, c: Config) -> io::Result<Config> {
-    let kind = Kind::V6(0, 1);
-    let loopback = Address { kind: kind };
+    let loopback = Address {
+        kind: Kind::V6(0, 1),
+    };
     let a = take(rt, "hostaddr", list_setters::hostaddr(c, loopback))?;
     take(rt, "port", list_setters::port(a, 5433))
 }
@@ -98,19 +99,16 @@ fn fill_ports<R: Print>(rt: &R, c: Config) -> io::Result<Config> {
 fn put_report<R: Print>(rt: &R, c: Config, decode: &[u8]) -> io::Result<()> {
     let mut out = [0u8; 13795];
     match report::report(c, decode, &mut out) {
-        report::Answer::Length(n) => rt.write_all(byte::part(&out, 0, n))?,
-        report::Answer::Short => tell(rt, "refused", 16)?,
-        report::Answer::Unsound => tell(rt, "refused", 17)?,
+        Ok(n) => rt.write_all(byte::part(&out, 0, n))?,
+        refused => tell(rt, "refused", report::number_of(refused))?,
     }
     rt.write_all(b"\n")
 }
 
 // A record with a list count above 16, which no text gives: every setter answers 17.
 fn forge<R: Print>(rt: &R, c: Config) -> io::Result<()> {
-    let mut ports = c.port;
-    ports.count = 17;
     let mut forged = c;
-    forged.port = ports;
+    forged.port.count = 17;
     take(rt, "forged", setters::keepalives(forged, true))?;
     take(rt, "forged", lent::lend_port(forged, 1))?;
     Ok(())

@@ -92,12 +92,12 @@ fn balance_of(n: u8) -> LoadBalanceHosts {
 }
 
 fn address_of(k: Call) -> Address {
-    if k.word == 4 {
-        let four = Kind::V4((k.low % 4294967296) as u32);
-        return Address { kind: four };
-    }
-    let six = Kind::V6(k.high, k.low);
-    Address { kind: six }
+    let kind = if k.word == 4 {
+        Kind::V4((k.low % 4294967296) as u32)
+    } else {
+        Kind::V6(k.high, k.low)
+    };
+    Address { kind }
 }
 
 fn port_of(k: Call) -> u16 {
@@ -105,8 +105,7 @@ fn port_of(k: Call) -> u16 {
 }
 
 fn call_word(c: Config, k: Call) -> Answer {
-    let key = k.key;
-    match key {
+    match k.key {
         6 => word_setters::ssl_mode(c, mode_of(k.word)),
         7 => word_setters::ssl_negotiation(c, negotiation_of(k.word)),
         13 => setters::keepalives(c, 0 < k.word),
@@ -117,8 +116,7 @@ fn call_word(c: Config, k: Call) -> Answer {
 }
 
 fn call_number(c: Config, k: Call) -> Answer {
-    let key = k.key;
-    match key {
+    match k.key {
         9 => list_setters::hostaddr(c, address_of(k)),
         10 => list_setters::port(c, port_of(k)),
         11 => setters::connect_timeout(c, k.low),
@@ -132,8 +130,7 @@ fn call_number(c: Config, k: Call) -> Answer {
 
 // A call in place, of a record that is lent.
 fn call_in_place(c: Config, k: Call) -> Answer {
-    let key = k.key;
-    match key {
+    match k.key {
         110 => lent::lend_port(c, port_of(k)),
         111 => lent::lend_connect_timeout(c, k.low),
         112 => lent::lend_tcp_user_timeout(c, k.low),
@@ -151,15 +148,12 @@ fn make(c: Config, k: Call) -> Answer {
 
 fn put_report<P: Print>(rt: &P, c: Config) -> io::Result<()> {
     let mut out = [0u8; 13795];
-    match report::report(c, b"", &mut out) {
-        report::Answer::Length(n) => {
-            let len = [(n / 256 % 256) as u8, (n % 256) as u8];
-            rt.write_all(&len)?;
-            rt.write_all(byte::part(&out, 0, n))
-        }
-        report::Answer::Short => Ok(()),
-        report::Answer::Unsound => Ok(()),
+    if let Ok(n) = report::report(c, b"", &mut out) {
+        let len = [(n / 256 % 256) as u8, (n % 256) as u8];
+        rt.write_all(&len)?;
+        rt.write_all(byte::part(&out, 0, n))?;
     }
+    Ok(())
 }
 
 // One call: its number is written, and its record handed on.
