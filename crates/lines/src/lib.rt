@@ -9,6 +9,8 @@ ghost use Rattle.line.specs.Line.{secret_value, word_value, host_value, number_v
 use address::Address;
 use draw::Pen;
 
+// Each line is three parts in turn. One function that takes the middle part as a closure would be no plainer: a call of it is as long as a line is now.
+
 pub fn text_line(key: usize, x: &[u8], dst: &mut [u8], pen: Pen) -> Pen
     ensures { sheet dst.new result ≡ drawn (sheet dst.old pen) (line key (text_value x.now)) }
 {
