@@ -21,7 +21,7 @@ module _ (key : ℕ) {A : Type 0} (f : A → List (List ℕ)) (entries : List A)
 
   pub entry_more : (s t u : Sheet) (i : ℕ) (d : A) → Left s t i → i < length entries → u ≡ drawn t (line key (f (get_or entries i d))) → Left s u (i + 1)
   entry_more s t u i d l k e =
-    l ∙ rw (add-one, drop-cons entries i d k) (sym (draw-then t u _ (line key (f (get_or entries i d))) (lines key (map f (drop (suc i) entries))) e refl ∙ ap (drawn t) (sym (lines_cons key _ _))))
+      l ∙ rw (add-one, drop-cons entries i d k) (sym (draw-then t u _ (line key (f (get_or entries i d))) (lines key (map f (drop (suc i) entries))) e refl ∙ ap (drawn t) (sym (lines_cons key _ _))))
 
   pub entries_ended : (s t : Sheet) (i : ℕ) → Left s t i → length entries ≤ i → t ≡ drawn s (lines key (map f entries))
   entries_ended s t i l h = sym (l ∙ rw (drop_of_length-le entries h) (sym (draw-none key t)))

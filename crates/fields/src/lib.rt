@@ -90,6 +90,8 @@ pub fn put_ports(ports: Ports, dst: &mut [u8], pen: Pen) -> Pen
     )
 }
 
+// The numbers of the words: five functions and no trait, since each is public under its name (docs/PROMISES.md), and a trait would hold
+// the same five matches.
 pub fn mode_number(word: SslMode) -> usize
     ensures { result ≡ mode_number word }
 {

@@ -10,7 +10,8 @@ use lists::Fault;
 // The number of a record with a list count above 16.
 const UNSOUND: usize = 17;
 
-// 0 and the record with the setting changed; or the number of a refusal, and the record as it was.
+// 0 and the record with the setting changed; or the number of a refusal, and the record as it was. No Result: the record comes back on a
+// refusal too, and the theorem `judged` of crate setter_laws speaks of the number.
 #[derive(Clone, Copy)]
 pub struct Answer {
     pub number: usize,
