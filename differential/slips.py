@@ -252,7 +252,7 @@ fn last_at_sign(s: &[u8], at: usize) -> usize {
         ("uri_chunks", "    c[at] == b':'\n", "    true\n"),
     ]),
     ("second_prefix_forgotten", [
-        ("names", "if byte::stands_at(name_table::name(34), 0, s) {", "if byte::stands_at(name_table::name(33), 0, s) {"),
+        ("names", "if starts_with_name(s, 34) {", "if starts_with_name(s, 33) {"),
     ]),
     # percent decoding, UTF-8
     ("plus_decoded_to_a_blank", [
