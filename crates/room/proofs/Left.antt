@@ -28,13 +28,13 @@ module _ (c : Config) where
   unfolding surely_fits
   uncounted n e = rw e
 
-  pub few-addresses : counted c ≡ true → c.hostaddr.count ≤ 16
+  pub few_addresses : counted c ≡ true → c.hostaddr.count ≤ 16
   unfolding counted
-  few-addresses e = leb-true c.hostaddr.count 16 (and_right (leb c.host.count 16) (leb c.hostaddr.count 16) (and_left (leb c.host.count 16 && leb c.hostaddr.count 16) (leb c.port.count 16) e))
+  few_addresses e = leb-true c.hostaddr.count 16 (and_right (leb c.host.count 16) (leb c.hostaddr.count 16) (and_left (leb c.host.count 16 && leb c.hostaddr.count 16) (leb c.port.count 16) e))
 
-  pub few-ports : counted c ≡ true → c.port.count ≤ 16
+  pub few_ports : counted c ≡ true → c.port.count ≤ 16
   unfolding counted
-  few-ports e = leb-true c.port.count 16 (and_right (leb c.host.count 16 && leb c.hostaddr.count 16) (leb c.port.count 16) e)
+  few_ports e = leb-true c.port.count 16 (and_right (leb c.host.count 16 && leb c.hostaddr.count 16) (leb c.port.count 16) e)
 
 -- taken away one after the other, or all at once
 at_once : (room x a b c d e : ℕ) → ltb x (room - a - b - c - d - e) ≡ ltb (x + a + b + c + d + e) room

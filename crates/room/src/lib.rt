@@ -35,6 +35,7 @@ fn without_hosts(from: usize, h: Hosts) -> usize
 }
 
 // Whether n bytes are enough for the report whatever the texts' bytes are; `false` tells nothing.
+#[tactic(auto, using(crate::proofs::Left::few_addresses, crate::proofs::Left::few_ports, crate::proofs::Left::uncounted))]
 pub fn surely_fits(c: Config, n: usize) -> bool
     ensures { result ≡ surely_fits n c }
 {
@@ -46,7 +47,5 @@ pub fn surely_fits(c: Config, n: usize) -> bool
     let options = without_text(dbname, c.options);
     let name = without_text(options, c.application_name);
     let left = without_hosts(name, c.host);
-    let addresses = 17 * c.hostaddr.count;
-    let ports = 9 * c.port.count;
-    127 + addresses + ports < left
+    127 + 17 * c.hostaddr.count + 9 * c.port.count < left
 }
