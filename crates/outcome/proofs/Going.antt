@@ -1,13 +1,11 @@
 -- The reader's loop: what holds while settings are applied, what a turn makes of it, and what holds where a turn stops.
 -- Assumes nothing.
-use Prim.Native.Nat.{ℕ, zero, suc, ◌+◌, ◌≤◌, ◌<◌}
+use Prim.Native.Nat.{ℕ, ◌+◌, ◌≤◌, ◌<◌}
 use mathlib.Core.Path.{◌≡◌, refl, sym, ap, ◌∙◌}
 use mathlib.Core.Bool.{Bool, true, false}
 use mathlib.Core.List.{List, [], ◌++◌, append-nil}
 use native.Mathlib.Omega.{arith}
 use lib.ListN.{length, length-append}
-use lib.Dec.{eqb}
-use borrow.Author.Tests.{ne_eqb}
 use Rattle.std.specs.Prelude.{Option, Some, None, Result, Ok, Err}
 use Rattle.byte.specs.Byte.{pick, part_of}
 use Rattle.byte.specs.Put.{put, written, after}
@@ -37,47 +35,21 @@ pub record Going (s d₀ : List ℕ) (uri : Bool) (m : ℕ) (d : List ℕ) (st :
   pub comes : outcome_of s ≡ outcome st.config bytes n (from s uri st.url).settings (from s uri st.url).end
   pub counted : n + measure s uri st.url ≤ m
 
--- an end with its number, as what is taken
-abbrev pub end_as : ℕ → Result (Option Taken) ℕ
-end_as k = pick (eqb k 0) (Ok None) (Err k)
-
-no_setting : {A : Type 0} → (k : ℕ) (t : Taken) → Ok (Some t) ≡ end_as k → A
-no_setting k t = by (eqb k 0)
-  where
-    by : {A : Type 0} → (b : Bool) → ◌≡◌ {A = Result (Option Taken) ℕ} (Ok (Some t)) (pick b (Ok None) (Err k)) → A
-    by true e = cc
-    by false e = cc
-
-no_end : {A : Type 0} → (k : ℕ) (t : Taken) → end_as k ≡ Ok (Some t) → A
-no_end k t e = no_setting k t (sym e)
-
-above : (k : ℕ) → eqb (suc k) 0 ≡ false
-above k = ne_eqb (suc k) 0 (λ z. absurd (omega arith))
-
 -- no refusal has the number of a clean end
-pub end-refused : (r : Refusal) → end_as (refusal_number r) ≡ Err (refusal_number r)
-end-refused NoSign = refl
-end-refused KeyAlone = refl
-end-refused EmptyValue = refl
-end-refused OpenQuote = refl
-end-refused Bracket = refl
-end-refused NoEquals = refl
-end-refused NotUtf8 = refl
+pub refusal-numbered : (r : Refusal) → refusal_number r ≡ 0 → ⊥
+refusal-numbered NoSign e = omega arith
+refusal-numbered KeyAlone e = omega arith
+refusal-numbered EmptyValue e = omega arith
+refusal-numbered OpenQuote e = omega arith
+refusal-numbered Bracket e = omega arith
+refusal-numbered NoEquals e = omega arith
+refusal-numbered NotUtf8 e = omega arith
 
--- two ends that are one have one number
-same-end : (k j : ℕ) → end_as k ≡ end_as j → k ≡ j
-same-end zero zero e = refl
-same-end zero (suc j) e = let z : ◌≡◌ {A = Result (Option Taken) ℕ} (Ok None) (Err (suc j)) = rw (above j) at e in cc
-same-end (suc k) zero e = let z : ◌≡◌ {A = Result (Option Taken) ℕ} (Err (suc k)) (Ok None) = rw (above k) at e in cc
-same-end (suc k) (suc j) e = let z : ◌≡◌ {A = Result (Option Taken) ℕ} (Err (suc k)) (Err (suc j)) = rw (above k, above j) at e in cc
-
--- an end that is not clean has a number other than 0
-pub broken-end : (j k : ℕ) → ◌≡◌ {A = Result (Option Taken) ℕ} (Err k) (end_as j) → (k ≡ 0 → ⊥) × (Err k ≡ end_as k)
-broken-end zero k e = cc
-broken-end (suc j) k e =
-    let f : ◌≡◌ {A = Result (Option Taken) ℕ} (Err k) (Err (suc j)) = rw (above j) at e in
-    let same : k ≡ suc j = cc in
-    (λ z. absurd (omega arith), rw (same, above j))
+-- the number of an end, which a setting is not
+abbrev pub Ends : Result (Option Taken) Refusal → ℕ → Type 0
+Ends (Ok None) k = k ≡ 0
+Ends (Err r) k = k ≡ refusal_number r
+Ends (Ok (Some t)) k = ⊥
 
 -- a setting in front of others, applied or not
 module _ (c : Config) (b : List ℕ) (n : ℕ) (x : Setting) (r : Reading) (a : Applied) (is : a ≡ applied (kind_of x) (value_of x) (length b) c) where
@@ -176,13 +148,13 @@ module _ (s d₀ : List ℕ) (uri : Bool) (m : ℕ) (d : List ℕ) (st : State) 
         next = f.next;
       }
 
-  one : (t x : Taken) → ◌≡◌ {A = Result (Option Taken) ℕ} (Ok (Some t)) (Ok (Some x)) → t ≡ x
+  one : (t x : Taken) → ◌≡◌ {A = Result (Option Taken) Refusal} (Ok (Some t)) (Ok (Some x)) → t ≡ x
   one t x e = cc
 
   on-by : (step : UrlStep) → next_at s uri st.url ≡ step → (t : Taken) → Ok (Some t) ≡ taken_by s uri st.packed d step
       → (l : List ℕ) → l ≡ left_by s uri st.packed d step → (a : Applied) → a ≡ applied t.kind (part_of st.packed t.end l) st.packed st.config → is_fine a.fault ≡ true
       → Going s d₀ uri m l (record { config = a.config; packed = t.packed; url = t.next }) (n + 1) × (measure s uri t.next < measure s uri st.url)
-  on-by (Ok None) e t is l w a gave fine = no_setting 0 t is
+  on-by (Ok None) e t is l w a gave fine = cc
   on-by (Err r) e t is l w a gave fine = cc
   on-by (Ok (Some f)) e t is l w a gave fine =
       let x = next-found s uri st.url f g.at e in
@@ -192,29 +164,29 @@ module _ (s d₀ : List ℕ) (uri : Bool) (m : ℕ) (d : List ℕ) (st : State) 
   off-by : (step : UrlStep) → next_at s uri st.url ≡ step → (t : Taken) → Ok (Some t) ≡ taken_by s uri st.packed d step
       → (l : List ℕ) → l ≡ left_by s uri st.packed d step → (a : Applied) → a ≡ applied t.kind (part_of st.packed t.end l) st.packed st.config → is_fine a.fault ≡ false
       → Packed (length s) d₀ g.bytes l × (outcome_of s ≡ refused (number_of a.fault) (key_of a.fault t.kind) n)
-  off-by (Ok None) e t is l w a gave fine = no_setting 0 t is
+  off-by (Ok None) e t is l w a gave fine = cc
   off-by (Err r) e t is l w a gave fine = cc
   off-by (Ok (Some f)) e t is l w a gave fine =
       let same : t ≡ given f = one t (given f) is in
       rw (same, w) (faulty f (value_at s uri f) refl (next-found s uri st.url f g.at e) a (rw (same, w) at gave) fine)
 
   -- an end, clean or broken
-  end_by : (step : UrlStep) → next_at s uri st.url ≡ step → (k : ℕ) → end_as k ≡ taken_by s uri st.packed d step
+  end_by : (step : UrlStep) → next_at s uri st.url ≡ step → (k : ℕ) → Ends (taken_by s uri st.packed d step) k
       → (l : List ℕ) → l ≡ left_by s uri st.packed d step → Packed (length s) d₀ g.bytes l × (outcome_of s ≡ ended st.config g.bytes n k)
   end_by (Ok None) e k is l w =
-      rw (same-end k 0 is, w) (
+      rw (is, w) (
         g.packed,
         g.comes ∙ ap (λ (r : Reading). outcome st.config g.bytes n r.settings r.end) (next-over s uri st.url g.at e) ∙ outcome-end st.config g.bytes n 0,
       )
   end_by (Err x) e k is l w =
-      rw (same-end k (refusal_number x) (is ∙ sym (end-refused x)), w) (
+      rw (is, w) (
         g.packed,
         g.comes ∙ ap (λ (r : Reading). outcome st.config g.bytes n r.settings r.end) (next-refused s uri st.url x g.at e) ∙ outcome-end st.config g.bytes n (refusal_number x),
       )
-  end_by (Ok (Some f)) e k is l w = no_end k _ is
+  end_by (Ok (Some f)) e k is l w = absurd is
 
   -- what a turn took, and what it wrote
-  module _ (r : Result (Option Taken) ℕ) (is : r ≡ taken_of s uri st.url st.packed d) (l : List ℕ) (w : l ≡ taken_leaves s uri st.url st.packed d) where
+  module _ (r : Result (Option Taken) Refusal) (is : r ≡ taken_of s uri st.url st.packed d) (l : List ℕ) (w : l ≡ taken_leaves s uri st.url st.packed d) where
     module _ (t : Taken) (q : r ≡ Ok (Some t)) (a : Applied) (gave : a ≡ applied t.kind (part_of st.packed t.end l) st.packed st.config) where
       pub go_on : is_fine a.fault ≡ true → Going s d₀ uri m l (record { config = a.config; packed = t.packed; url = t.next }) (n + 1) × (measure s uri t.next < measure s uri st.url)
       unfolding taken_of taken_leaves
@@ -224,6 +196,6 @@ module _ (s d₀ : List ℕ) (uri : Bool) (m : ℕ) (d : List ℕ) (st : State) 
       unfolding taken_of taken_leaves
       go-off fine = off-by (next_at s uri st.url) refl t (sym q ∙ is) l w a gave fine
 
-    pub at-end : (k : ℕ) → r ≡ end_as k → Packed (length s) d₀ g.bytes l × (outcome_of s ≡ ended st.config g.bytes n k)
+    pub at-end : (k : ℕ) → Ends r k → Packed (length s) d₀ g.bytes l × (outcome_of s ≡ ended st.config g.bytes n k)
     unfolding taken_of taken_leaves
-    at-end k q = end_by (next_at s uri st.url) refl k (sym q ∙ is) l w
+    at-end k q = end_by (next_at s uri st.url) refl k (rw is at q) l w

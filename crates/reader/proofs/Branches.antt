@@ -18,16 +18,16 @@ use Rattle.config.specs.declared.Config.{Config}
 use Rattle.apply.specs.Apply.{applied}
 use Rattle.param.specs.Sets.{Sets}
 use Rattle.taking.specs.declared.Taken.{Taken}
+use Rattle.setting.specs.declared.Refusal.{Refusal}
 use Rattle.setting.specs.Refusal.{refusal_number}
-use Rattle.url_parser.specs.Step.{UrlStep}
-use Rattle.taking.specs.Taking.{next_at, taken_by, taken_of, taken_leaves}
+use Rattle.taking.specs.Taking.{taken_of, taken_leaves}
 use Rattle.taking.proofs.Next.{measure, slack}
 use Rattle.outcome.specs.declared.Answer.{Answer}
 use Rattle.outcome.specs.Outcome.{outcome_of, filled}
 use Rattle.ending.specs.Ending.{ending}
 use Rattle.outcome.specs.Outcome.{ending_of}
 use Rattle.outcome.specs.Steps.{State}
-use Rattle.outcome.proofs.Going.{Going, end_as, broken-end, go_on, go-off, at-end, end-refused}
+use Rattle.outcome.proofs.Going.{Going, refusal-numbered, go_on, go-off, at-end}
 use Rattle.outcome.proofs.Answers.{refused-text, end-fine, end-broken}
 
 -- the count stays far below the largest number
@@ -38,7 +38,7 @@ abbrev pub state : Config → ℕ → Url → State
 state c at u = record { config = c; packed = at; url = u }
 
 module _ (s d₀ : List ℕ) (uri : Bool) (d : List ℕ) (c : Config) (at : ℕ) (u : Url) (n : ℕ) (g : Going s d₀ uri 8194 d (state c at u) n) (long : length s ≤ length d₀)
-    (took : Result (Option Taken) ℕ) (is : took ≡ taken_of s uri u at d) (l : List ℕ) (w : l ≡ taken_leaves s uri u at d) where
+    (took : Result (Option Taken) Refusal) (is : took ≡ taken_of s uri u at d) (l : List ℕ) (w : l ≡ taken_leaves s uri u at d) where
   -- what is applied comes to the verdict f and, with none refused, to the record r
   module _ (t : Taken) (q : took ≡ Ok (Some t)) (f : Result ⊤ Fault) (r : Config) (x : Sets f (applied t.kind (part_of at t.end l) at c) r) where
     pub goes : is_fine f ≡ true → Going s d₀ uri 8194 l (state r t.packed t.next) (n + 1) × (measure s uri t.next < measure s uri u)
@@ -61,23 +61,16 @@ module _ (s d₀ : List ℕ) (uri : Bool) (d : List ℕ) (c : Config) (at : ℕ)
   pub end-accepts : took ≡ Ok None
       → (ending 0 0 n ≡ ending_of (outcome_of s).answer) × (written l at (replicate (length s - at) 0) ≡ filled s (outcome_of s).packed d₀) × (c ≡ (outcome_of s).answer.config)
   end-accepts q =
-      let o = at-end s d₀ uri 8194 d (state c at u) n g long took is l w 0 q in
+      let o = at-end s d₀ uri 8194 d (state c at u) n g long took is l w 0 (rw q refl) in
       let p = end-fine s d₀ l g.bytes o.0 long c n at 0 g.long low refl o.1 in
       (ap ending_of p.0, p.1, ap (λ (y : Answer). y.config) p.0)
 
-  pub end-refuses : (k : ℕ) → took ≡ Err k
-      → (ending k 0 n ≡ ending_of (outcome_of s).answer) × (written l 0 (replicate (length s) 0) ≡ filled s (outcome_of s).packed d₀) × (k ≡ 0 → ⊥)
-  unfolding taken_of
-  end-refuses k q =
-      let b = broken (next_at s uri u) k (sym q ∙ is) in
-      let o = at-end s d₀ uri 8194 d (state c at u) n g long took is l w k (q ∙ b.1) in
-      let p = end-broken s d₀ l g.bytes o.0 long c n k b.0 o.1 in
-      (ap ending_of p.0, p.1, b.0)
-    where
-      broken : (step : UrlStep) (k : ℕ) → Err k ≡ taken_by s uri at d step → (k ≡ 0 → ⊥) × (Err k ≡ end_as k)
-      broken (Ok None) k e = cc
-      broken (Err r) k e = broken-end (refusal_number r) k (e ∙ sym (end-refused r))
-      broken (Ok (Some f)) k e = cc
+  pub end-refuses : (r : Refusal) → took ≡ Err r
+      → (ending (refusal_number r) 0 n ≡ ending_of (outcome_of s).answer) × (written l 0 (replicate (length s) 0) ≡ filled s (outcome_of s).packed d₀) × (refusal_number r ≡ 0 → ⊥)
+  end-refuses r q =
+      let o = at-end s d₀ uri 8194 d (state c at u) n g long took is l w (refusal_number r) (rw q refl) in
+      let p = end-broken s d₀ l g.bytes o.0 long c n (refusal_number r) (refusal-numbered r) o.1 in
+      (ap ending_of p.0, p.1, refusal-numbered r)
 
 -- no record is promised of a refusal
 pub no_record : {A : Type 0} → (number : ℕ) → (number ≡ 0 → ⊥) → (r : ℕ) → r ≡ number → r ≡ 0 → A

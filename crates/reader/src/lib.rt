@@ -26,7 +26,9 @@ fn read_settings(text: &[u8], decode: &mut [u8], config: &mut Config) -> Ending
         let t = match taking::take_setting(text, decode, uri, url, packed) {
             Ok(Some(t)) => t,
             Ok(None) => return ending::accept(decode, n, packed, count),
-            Err(number) => return ending::refuse_text(decode, n, number, 0, count),
+            Err(refusal) => {
+                return ending::refuse_text(decode, n, refusal.number() as usize, 0, count);
+            }
         };
         let verdict = param::param(config, t.kind, decode, packed, t.end);
         if verdict.is_err() {

@@ -3,7 +3,7 @@
 use Rattle.std.specs.Prelude.{ℕ, Bool, true, false, ◌||◌, List, eqb, Option, Some, None, Result, Ok, Err}
 use Rattle.byte.specs.Byte.{pick, between, part_of}
 use Rattle.byte.specs.Put.{written, after}
-use Rattle.setting.specs.Refusal.{refusal_number}
+use Rattle.setting.specs.declared.Refusal.{Refusal}
 use Rattle.keyvalue.specs.KeyValue.{Step, parameter_at, unescaped}
 use Rattle.url_parser.specs.declared.Stage.{Stage}
 use Rattle.url_parser.specs.declared.Url.{Url}
@@ -32,10 +32,10 @@ abbrev pub value_at : List ℕ → Bool → Found → List ℕ
 value_at s true f = value_in s f
 value_at s false f = unescaped (part_of f.from f.to s)
 
--- what is taken from the text at a place that is read up to: none at a clean end, a refusal's number, or a setting whose value is written behind what is packed, up to `at`
-abbrev pub taken_by : List ℕ → Bool → ℕ → List ℕ → UrlStep → Result (Option Taken) ℕ
+-- what is taken from the text at a place that is read up to: none at a clean end, a refusal, or a setting whose value is written behind what is packed, up to `at`
+abbrev pub taken_by : List ℕ → Bool → ℕ → List ℕ → UrlStep → Result (Option Taken) Refusal
 taken_by s uri at d (Ok None) = Ok None
-taken_by s uri at d (Err r) = Err (refusal_number r)
+taken_by s uri at d (Err r) = Err r
 taken_by s uri at d (Ok (Some f)) =
     Ok (Some (record {
       kind = f.kind;
@@ -49,7 +49,7 @@ left_by s uri at d (Ok None) = d
 left_by s uri at d (Err r) = d
 left_by s uri at d (Ok (Some f)) = written d at (value_at s uri f)
 
-unfoldable pub taken_of : List ℕ → Bool → Url → ℕ → List ℕ → Result (Option Taken) ℕ
+unfoldable pub taken_of : List ℕ → Bool → Url → ℕ → List ℕ → Result (Option Taken) Refusal
 taken_of s uri u at d = taken_by s uri at d (next_at s uri u)
 
 unfoldable pub taken_leaves : List ℕ → Bool → Url → ℕ → List ℕ → List ℕ

@@ -75,21 +75,20 @@ fn packed_after(kind: usize, at: usize, end: usize) -> usize
     if keeps_value(kind) { end } else { at }
 }
 
-// One setting read, and its value written behind what is packed; none at a clean end, or the number of a broken one.
+// One setting read, and its value written behind what is packed; none at a clean end, or why the reading ends before.
 pub fn take_setting(
     text: &[u8],
     decode: &mut [u8],
     uri: bool,
     u: Url,
     at: usize,
-) -> Result<Option<Taken>, usize>
+) -> Result<Option<Taken>, Refusal>
     ensures value { result ≡ taken_of text.now uri u at decode.old }
     ensures decode_after { decode.new ≡ taken_leaves text.now uri u at decode.old }
 {
-    match next_setting(text, uri, u) {
-        Ok(None) => Ok(None),
-        Err(refusal) => Err(refusal.number() as usize),
-        Ok(Some(f)) => {
+    match next_setting(text, uri, u)? {
+        None => Ok(None),
+        Some(f) => {
             let end = put_value(text, uri, f, decode, at);
             Ok(Some(Taken {
                 kind: f.kind,

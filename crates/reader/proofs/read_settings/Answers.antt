@@ -16,8 +16,8 @@ returns-in-Ok-None c =
 
 pub returns-in-Err : goal.returns-in-Err
 returns-in-Err c =
-    let f = end-refuses c.args.text.now c.args.decode.now _ _ _ _ _ _ c.loop-t.invariant.1 c.loop-t.invariant.0 _ c.take_setting.ensures.value _ c.take_setting.ensures.decode_after c.in-Err.number (cc) in
-    record { value = c.refuse_text.ensures.value ∙ f.0; decode_after = c.refuse_text.ensures.decode_after ∙ f.1; config_after = no_record _ f.2 _ (ap (λ (e : Ending). e.number) c.refuse_text.ensures.value) }
+    let f = end-refuses c.args.text.now c.args.decode.now _ _ _ _ _ _ c.loop-t.invariant.1 c.loop-t.invariant.0 _ c.take_setting.ensures.value _ c.take_setting.ensures.decode_after c.in-Err.refusal (cc) in
+    record { value = rw (← f.0, ← c.number.ensures) c.refuse_text.ensures.value; decode_after = c.refuse_text.ensures.decode_after ∙ f.1; config_after = no_record _ f.2 _ (ap (λ (e : Ending). e.number) c.refuse_text.ensures.value ∙ c.number.ensures) }
 
 pub returns-then-is_err : goal.returns-then-is_err
 returns-then-is_err c =

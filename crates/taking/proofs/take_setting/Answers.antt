@@ -1,33 +1,21 @@
-use mathlib.Core.Path.{sym, ◌∙◌}
+use Rattle.std.proofs.Common.{rules, sym, ◌∙◌}
 use Rattle.taking.specs.Taking.{taken_of, taken_leaves}
 use Rattle.taking.proofs.take_setting.Goals as goal
 
-pub returns-in-Ok-None-clause-value : goal.returns-in-Ok-None-clause-value
-unfolding taken_of
-returns-in-Ok-None-clause-value c =
-    rw (sym c.next_setting.ensures ∙ c.in-Ok-None.is, c.in-Ok-None.field-0-is)
+pub returns-in_err-next_setting : goal.returns-in_err-next_setting
+unfolding taken_of taken_leaves
+returns-in_err-next_setting c =
+    let step = sym c.next_setting.ensures ∙ c.in_err-next_setting.was in
+    record { value = rw step (search rules); decode_after = rw step }
 
-pub returns-in-Ok-None-clause-decode_after : goal.returns-in-Ok-None-clause-decode_after
-unfolding taken_leaves
-returns-in-Ok-None-clause-decode_after c =
-    rw (sym c.next_setting.ensures ∙ c.in-Ok-None.is, c.in-Ok-None.field-0-is)
+pub returns-in-None : goal.returns-in-None
+unfolding taken_of taken_leaves
+returns-in-None c =
+    let step = sym c.next_setting.ensures ∙ c.in_ok-next_setting.was in
+    record { value = rw (step, c.in-None.is); decode_after = rw (step, c.in-None.is) }
 
-pub returns-in-Err-clause-value : goal.returns-in-Err-clause-value
-unfolding taken_of
-returns-in-Err-clause-value c =
-    rw (sym c.next_setting.ensures ∙ c.in-Err.is, c.number.ensures)
-
-pub returns-in-Err-clause-decode_after : goal.returns-in-Err-clause-decode_after
-unfolding taken_leaves
-returns-in-Err-clause-decode_after c =
-    rw (sym c.next_setting.ensures ∙ c.in-Err.is)
-
-pub returns-in-Ok-Some-clause-value : goal.returns-in-Ok-Some-clause-value
-unfolding taken_of
-returns-in-Ok-Some-clause-value c =
-    rw (sym c.next_setting.ensures ∙ c.in-Ok-Some.is, c.in-Ok-Some.field-0-is, c.packed_after.ensures, c.put_value-end.ensures.value)
-
-pub returns-in-Ok-Some-clause-decode_after : goal.returns-in-Ok-Some-clause-decode_after
-unfolding taken_leaves
-returns-in-Ok-Some-clause-decode_after c =
-    rw (sym c.next_setting.ensures ∙ c.in-Ok-Some.is, c.in-Ok-Some.field-0-is) c.put_value-end.ensures.decode_after
+pub returns-in-Some : goal.returns-in-Some
+unfolding taken_of taken_leaves
+returns-in-Some c =
+    let step = sym c.next_setting.ensures ∙ c.in_ok-next_setting.was in
+    record { value = rw (step, c.in-Some.is, c.packed_after.ensures, c.put_value-end.ensures.value); decode_after = rw (step, c.in-Some.is) c.put_value-end.ensures.decode_after }
