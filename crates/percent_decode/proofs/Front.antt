@@ -1,58 +1,48 @@
--- Bytes that are copied up to the first `%`, and what is decoded from there on: together they are the whole text decoded.
+-- Writing that stops on the way: what is written behind it completes it.
 -- Assumes nothing.
-use mathlib.Core.Path.{◌≡◌, refl, sym, ap, ◌∙◌}
-use mathlib.Core.Bool.{Bool, true, false}
-use mathlib.Core.List.{List, [], ◌∷◌, ◌++◌}
-use Prim.Native.Nat.{ℕ, suc, ◌+◌, ◌≤◌}
+use mathlib.Core.Path.{◌≡◌, sym, ap, ◌∙◌}
+use mathlib.Core.List.{List, ◌++◌}
+use Prim.Native.Nat.{ℕ, ◌+◌, ◌≤◌}
 use native.Mathlib.Omega.{arith}
-use lib.Dec.{eqb}
-use lib.ListN.{length, take, drop, length-append}
-use borrow.Author.Tests.{eqb-false}
-use Rattle.byte.specs.Byte.{pick}
-use Rattle.byte.specs.Put.{written, after}
-use Rattle.byte.proofs.Writing.{after-room, length-written, written-append, after-append}
-use Rattle.byte.proofs.Fill.{Filled}
-use Rattle.split.specs.Split.{first_at}
-use Rattle.split.proofs.Split.{first-most}
-use Rattle.percent.specs.Percent.{decoded}
-use Rattle.percent.proofs.Laws.{plain_step}
+use lib.ListN.{length, take, drop, take-append-drop}
+use lib.Seq.{length-take-le}
+use Rattle.byte.specs.Put.{put, written, after}
+use Rattle.byte.proofs.Writing.{written-room, after-room, written-append, after-append}
+use Rattle.byte.proofs.Fill.{Filling}
 
-split-plain : (s : List ℕ) → take (first_at 37 s) s ++ decoded (drop (first_at 37 s) s) ≡ decoded s
-unfolding first_at
-split-plain [] = refl
-split-plain (a ∷ s) = by (eqb a 37) refl (split-plain s)
-  where
-    by : (t : Bool) → eqb a 37 ≡ t → take (first_at 37 s) s ++ decoded (drop (first_at 37 s) s) ≡ decoded s
-        → take (pick t 0 (suc (first_at 37 s))) (a ∷ s) ++ decoded (drop (pick t 0 (suc (first_at 37 s))) (a ∷ s)) ≡ decoded (a ∷ s)
-    by true e h = refl
-    by false e h = ap (λ (l : List ℕ). a ∷ l) h ∙ sym (plain_step (a ∷ s) 0 (omega arith) (eqb-false a 37 e))
+module _ (d₀ : List ℕ) (at : ℕ) (x : List ℕ) (room : at + length x ≤ length d₀) (d : List ℕ) (k : ℕ) (rest : List ℕ) (f : Filling d₀ at x rest d k) where
+  abbrev y : List ℕ
+  y = take k x
 
-module _ (s : List ℕ) (plain : ℕ) (p : plain ≡ 0 + first_at 37 (drop 0 s)) where
-  pub plain-most : plain ≤ length s
-  plain-most = omega (arith, p, first-most 37 s)
+  long : length y ≡ k
+  long = length-take-le k x f.low
 
-  whole : take plain s ++ decoded (drop plain s) ≡ decoded s
-  whole = let e : plain ≡ first_at 37 s = omega (arith, p) in rw e (split-plain s)
+  room-first : at + length y ≤ length d₀
+  room-first = omega (arith, long, f.low)
 
-  module _ (d : List ℕ) (at : ℕ) (room : at + length (decoded s) ≤ length d) (start : ℕ) (is : start ≡ after d at (take plain s)) (d' : List ℕ) (leaves : d' ≡ written d at (take plain s)) where
-    together : at + length (take plain s ++ decoded (drop plain s)) ≤ length d
-    together = omega (arith, room, ap length whole)
+  whole : y ++ rest ≡ x
+  whole = ap (λ (l : List ℕ). y ++ l) (sym f.left) ∙ take-append-drop k x
 
-    pub rest-room : start + length (decoded (drop plain s)) ≤ length d'
-    rest-room =
-        omega (
-          arith,
-          together,
-          is,
-          length-append (take plain s) (decoded (drop plain s)),
-          after-room d at (take plain s) (omega (arith, together, length-append (take plain s) (decoded (drop plain s)))),
-          ap length leaves,
-          length-written d at (take plain s),
-        )
+  room_whole : at + length (y ++ rest) ≤ length d₀
+  room_whole = omega (arith, ap length whole)
 
-    module _ (d'' : List ℕ) (k : ℕ) (f : Filled d' start (decoded (drop plain s)) d'' k) where
-      pub rest-after : start + k ≡ after d at (decoded s)
-      rest-after = f.answer ∙ rw (is, leaves) (after-append d at (take plain s) (decoded (drop plain s)) together) ∙ ap (after d at) whole
+  so_far : d ≡ written d₀ at y
+  unfolding put
+  so_far = f.is ∙ ap (λ (n : ℕ). take at d₀ ++ y ++ drop (at + n) d₀) (sym long) ∙ sym (written-room d₀ at y room-first)
 
-      pub rest-written : d'' ≡ written d at (decoded s)
-      rest-written = f.leaves ∙ rw (is, leaves) (written-append d at (take plain s) (decoded (drop plain s)) together) ∙ ap (written d at) whole
+  place : at + k ≡ after d₀ at y
+  place = sym (after-room d₀ at y room-first ∙ ap (λ (n : ℕ). at + n) long)
+
+  pub rest-after : after d (at + k) rest ≡ after d₀ at x
+  rest-after =
+      ap (λ (l : List ℕ). after l (at + k) rest) so_far
+      ∙ ap (λ (n : ℕ). after (written d₀ at y) n rest) place
+      ∙ after-append d₀ at y rest room_whole
+      ∙ ap (after d₀ at) whole
+
+  pub rest-written : written d (at + k) rest ≡ written d₀ at x
+  rest-written =
+      ap (λ (l : List ℕ). written l (at + k) rest) so_far
+      ∙ ap (λ (n : ℕ). written (written d₀ at y) n rest) place
+      ∙ written-append d₀ at y rest room_whole
+      ∙ ap (written d₀ at) whole

@@ -25,12 +25,27 @@ pub fn decode(src: &[u8], dst: &mut [u8], at: usize) -> usize
     if !has_room(src, dst.len(), at) {
         return at;
     }
-    let plain = split::find(src, 0, b'%');
-    let start = byte::copy(&src[..plain], dst, at);
+    for (k, &b) in src.iter().enumerate() {
+        if b == b'%' {
+            return decode_pieces(&src[k..], dst, at + k);
+        }
+        dst[at + k] = b;
+    }
+    at + src.len()
+}
+
+// The same, piece by piece.
+fn decode_pieces(src: &[u8], dst: &mut [u8], at: usize) -> usize
+    ensures value { result ≡ after dst.old at (decoded src.now) }
+    ensures dst_after { dst.new ≡ written dst.old at (decoded src.now) }
+{
+    if !has_room(src, dst.len(), at) {
+        return at;
+    }
     let mut k = 0;
-    for b in percent::decoding(&src[plain..]) {
-        dst[start + k] = b;
+    for one in percent::decoding(src) {
+        dst[at + k] = one;
         k += 1;
     }
-    start + k
+    at + k
 }

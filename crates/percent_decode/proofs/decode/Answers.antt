@@ -1,72 +1,59 @@
 -- `decode` meets its contract: bytes are copied up to the first `%`, and what is decoded from there on completes them. Assumes nothing.
-use mathlib.Core.Path.{◌≡◌, sym, ap, subst, ◌∙◌}
-use mathlib.Core.List.{List, ◌∷◌}
-use Prim.Native.Nat.{ℕ, ◌+◌, ◌<◌, ◌≤◌}
-use native.Mathlib.Omega.{arith}
+use lib.ListN.{length, drop, get_or}
 use borrow.Author.Tests.{leb-true, leb-false}
-use lib.ListN.{length, drop}
-use lib.Seq.{length-take-le}
-use Rattle.byte.proofs.Scan.{slice_from}
-use Rattle.byte.proofs.Writing.{written-short, after-short}
+use native.Mathlib.Omega.{arith}
+use Prim.Native.Nat.{ℕ, ◌+◌, ◌<◌}
+use mathlib.Core.List.{List, ◌∷◌}
+use mathlib.Core.Path.{◌≡◌, sym, ap, ◌∙◌}
 use Rattle.byte.proofs.Fill.{Filling, fill_start, fill-room, fill_more, fill_done}
+use Rattle.byte.proofs.Writing.{written-short, after-short}
+use Rattle.byte.specs.Put.{written, after}
 use Rattle.percent.specs.Percent.{decoded}
-use Rattle.percent.specs.Left.{decoded_left}
-use Rattle.percent_decode.proofs.Front.{plain-most, rest-room, rest-after, rest-written}
+use Rattle.percent_decode.proofs.Front.{rest-after, rest-written}
+use Rattle.percent.proofs.Laws.{stop, plain_step, slice-from}
+-- in a turn the byte that was read is what comes next
 use Rattle.percent_decode.proofs.decode.Goals as goal
 
 pub returns-then-not-has_room : goal.returns-then-not-has_room
 returns-then-not-has_room c =
+    let here_no_room : length c.args.dst.now < c.args.at + length (decoded c.args.src.now) = leb-false _ _ (sym c.has_room.ensures ∙ c.if-not-has_room.true) in
     let a = c.args in
-    let here_no_room : length a.dst.now < a.at + length (decoded a.src.now) = leb-false _ _ (sym c.has_room.ensures ∙ c.if-not-has_room.true) in
     record { value = sym (after-short _ a.at _ here_no_room); dst_after = sym (written-short _ a.at _ here_no_room) }
 
-pub slice_bounds-copy-end : goal.slice_bounds-copy-end
-slice_bounds-copy-end c = sym (length-take-le c.find-plain.result c.args.src.now (plain-most c.args.src.now _ c.find-plain.ensures))
+pub loop-k-init : goal.loop-k-init
+loop-k-init c =
+    (leb-true _ _ (sym c.has_room.ensures ∙ c.if-not-has_room.false), fill_start _ _ _)
 
-pub slice_bounds-decoding-count : goal.slice_bounds-decoding-count
-slice_bounds-decoding-count c = plain-most c.args.src.now _ c.find-plain.ensures
+pub overflow_add-at : goal.overflow_add-at
+overflow_add-at c =
+    omega (arith, c.loop-k.invariant.0, c.loop-k.invariant.1.low)
 
-pub slice_bounds-decoding-start : goal.slice_bounds-decoding-start
-slice_bounds-decoding-start c = plain-most c.args.src.now _ c.find-plain.ensures
-
-pub loop-b-init : goal.loop-b-init
-loop-b-init c =
+pub returns-then-b-eq37 : goal.returns-then-b-eq37
+returns-then-b-eq37 c =
+    let l = c in
     let a = c.args in
-    let room : a.at + length (decoded a.src.now) ≤ length a.dst.now = leb-true _ _ (sym c.has_room.ensures ∙ c.if-not-has_room.false) in
-    let e : decoded (drop c.find-plain.result a.src.now) ≡ decoded_left c.into_iter-b-iterator.result =
-    sym (ap decoded_left c.into_iter-b-iterator.ensures.into_iter_gives ∙ c.decoding-b-items.ensures ∙ ap decoded (slice_from a.src.now c.find-plain.result)) in (
-      rest-room a.src.now _ c.find-plain.ensures a.dst.now a.at room _ c.copy-start.ensures.value _ c.copy-start.ensures.dst_after,
-      subst (λ (l : List ℕ). Filling c.copy-start.new.dst c.copy-start.result (decoded (drop c.find-plain.result a.src.now)) l c.copy-start.new.dst 0) e (fill_start _ _ _),
-    )
-
-pub bounds-dst-start : goal.bounds-dst-start
-bounds-dst-start c =
-    let l = c.loop-b in
-    let here_next : Filling c.copy-start.new.dst c.copy-start.result (decoded (drop c.find-plain.result c.args.src.now)) (c.in-Some.b ∷ decoded_left c.next.new.self) l.dst l.k = rw c.in-Some.ensures.steps at l.invariant.1 in
-    fill-room _ _ _ l.invariant.0 _ _ _ _ here_next
+    let p = c.decode_pieces.ensures in
+    let e = slice-from a.src.now l.loop-k.k in
+    record { value = p.value ∙ ap (λ (x : List ℕ). after l.loop-k.dst (a.at + l.loop-k.k) (decoded x)) e ∙ rest-after _ _ _ l.loop-k.invariant.0 _ _ _ l.loop-k.invariant.1; dst_after = p.dst_after ∙ ap (λ (x : List ℕ). written l.loop-k.dst (a.at + l.loop-k.k) (decoded x)) e ∙ rest-written _ _ _ l.loop-k.invariant.0 _ _ _ l.loop-k.invariant.1 }
 
 pub overflow_add-dst : goal.overflow_add-dst
-overflow_add-dst c = omega (arith, c.loop-b.invariant.0, c.loop-b.invariant.1.low)
+overflow_add-dst c =
+    omega (arith, c.loop-k.invariant.0, c.loop-k.invariant.1.low)
 
-pub overflow_add-k : goal.overflow_add-k
-overflow_add-k c = omega (arith, c.loop-b.invariant.0, c.loop-b.invariant.1.low)
+pub bounds-dst-at : goal.bounds-dst-at
+bounds-dst-at c =
+    let here_next : Filling c.args.dst.now c.args.at (decoded c.args.src.now) (get_or c.args.src.now c.loop-k.k 0 ∷ decoded (drop (c.loop-k.k + 1) c.args.src.now)) c.loop-k.dst c.loop-k.k = rw (plain_step c.args.src.now c.loop-k.k c.loop-k-test.true c.if-b-eq37.false) at c.loop-k.invariant.1 in
+    fill-room _ _ _ c.loop-k.invariant.0 _ _ _ _ here_next
 
-pub loop-b-preserved : goal.loop-b-preserved
-loop-b-preserved c =
-    let l = c.loop-b in
-    let here_next : Filling c.copy-start.new.dst c.copy-start.result (decoded (drop c.find-plain.result c.args.src.now)) (c.in-Some.b ∷ decoded_left c.next.new.self) l.dst l.k = rw c.in-Some.ensures.steps at l.invariant.1 in
-    (l.invariant.0, fill_more _ _ _ l.invariant.0 _ _ _ _ here_next)
-
-pub overflow_add-result : goal.overflow_add-result
-overflow_add-result c = omega (arith, c.loop-b.invariant.0, c.loop-b.invariant.1.low)
+pub loop-k-preserved : goal.loop-k-preserved
+loop-k-preserved c =
+    let here_next : Filling c.args.dst.now c.args.at (decoded c.args.src.now) (get_or c.args.src.now c.loop-k.k 0 ∷ decoded (drop (c.loop-k.k + 1) c.args.src.now)) c.loop-k.dst c.loop-k.k = rw (plain_step c.args.src.now c.loop-k.k c.loop-k-test.true c.if-b-eq37.false) at c.loop-k.invariant.1 in
+    (c.loop-k.invariant.0, fill_more _ _ _ c.loop-k.invariant.0 _ _ _ _ here_next)
 
 pub returns : goal.returns
 returns c =
-    let a = c.args in
-    let l = c.loop-b in
-    let room : a.at + length (decoded a.src.now) ≤ length a.dst.now = leb-true _ _ (sym c.has_room.ensures ∙ c.if-not-has_room.false) in
-    let f = fill_done _ _ _ l.invariant.0 _ _ (rw c.in-None.ensures.steps.0 at l.invariant.1) in
-    record {
-      value = rest-after a.src.now _ c.find-plain.ensures a.dst.now a.at room _ c.copy-start.ensures.value _ c.copy-start.ensures.dst_after _ _ f;
-      dst_after = rest-written a.src.now _ c.find-plain.ensures a.dst.now a.at room _ c.copy-start.ensures.value _ c.copy-start.ensures.dst_after _ _ f;
-    }
+    let l = c.loop-k in
+    let s = c.args.src.now in
+    let f = fill_done _ _ _ l.invariant.0 _ _ (rw (stop s l.k (omega arith)) at l.invariant.1) in
+    let whole : l.k ≡ length s = omega arith in
+    record { value = rw whole at f.answer; dst_after = f.leaves }
