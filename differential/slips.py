@@ -43,15 +43,11 @@ SLIPS = [
         ("reader", "    let mut packed: usize = 0;\n", """\
     let mut ahead = url_parser::start(prefix);
     loop {
-        let t = taking::take_setting(text, decode, uri, ahead, 0);
-        if t.ended {
-            let number = t.number;
-            if number != 0 {
-                return ending::refuse_text(decode, n, number, 0, 0);
-            }
-            break;
+        match taking::take_setting(text, decode, uri, ahead, 0) {
+            Ok(Some(t)) => ahead = t.next,
+            Ok(None) => break,
+            Err(refusal) => return ending::refuse_text(decode, n, refusal.number() as usize, 0, 0),
         }
-        ahead = t.next;
     }
     let mut packed: usize = 0;
 """),
@@ -167,7 +163,7 @@ fn close_up(config: &mut Config, first: usize) {
         ("keyvalue", "    if to == from {\n", """\
     if to == from {
         if from < s.len() {
-            return Step::Refused(6);
+            return Err(Refusal::NoSign);
         }
 """),
     ]),
@@ -176,7 +172,7 @@ fn close_up(config: &mut Config, first: usize) {
         let next = quote + 1;
         if next < s.len() {
             if !scan::starts_space(s, next) {
-                return Step::Refused(6);
+                return Err(Refusal::NoSign);
             }
         }
 """),
@@ -188,7 +184,7 @@ fn close_up(config: &mut Config, first: usize) {
         ("keyvalue", "        let quote = value.to;\n", """\
         let quote = value.to;
         if value.len == 0 {
-            return Step::Refused(8);
+            return Err(Refusal::EmptyValue);
         }
 """),
     ]),
@@ -226,7 +222,7 @@ fn last_at_sign(s: &[u8], at: usize) -> usize {
         ("uri_step", "    let judged = password.judged;\n", """\
     let judged = password.judged;
     if !judged.utf8 {
-        return UrlStep::Ended(NOT_UTF8);
+        return Err(Refusal::NotUtf8);
     }
 """),
     ]),
@@ -237,12 +233,12 @@ fn last_at_sign(s: &[u8], at: usize) -> usize {
         ("uri_values", "utf8: first == b'/',", "utf8: false,"),
     ]),
     ("last_ampersand_refused", [
-        ("uri_step", "    if s.len() <= at {\n        return UrlStep::Ended(CLEAN);\n", """\
+        ("uri_step", "    if s.len() <= at {\n        return Ok(None);\n", """\
     if s.len() <= at {
         if byte::at(s, at - 1) == b'&' {
-            return UrlStep::Ended(NO_EQUALS);
+            return Err(Refusal::NoEquals);
         }
-        return UrlStep::Ended(CLEAN);
+        return Ok(None);
 """),
     ]),
     ("key_of_a_parameter_not_decoded", [
