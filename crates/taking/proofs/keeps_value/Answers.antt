@@ -14,12 +14,12 @@ unfolding keeps between
 returns-in_default-2 c =
     grind (arith, nat_tests)
 
-pub returns-in-1-to-5 : goal.returns-in-1-to-5
+pub returns-in-1 : goal.returns-in-1
 unfolding keeps between
-returns-in-1-to-5 c =
+returns-in-1 c =
     grind (arith, nat_tests)
 
-pub returns-in-1-to-5-2 : goal.returns-in-1-to-5-2
+pub returns-in-1-2 : goal.returns-in-1-2
 unfolding keeps between
-returns-in-1-to-5-2 c =
+returns-in-1-2 c =
     grind (arith, nat_tests)
