@@ -1,7 +1,7 @@
 -- Laws of values: what the piece at a place adds to one.
 -- Assumes nothing.
 use mathlib.Core.Path.{◌≡◌, refl, sym, ap, ◌∙◌}
-use mathlib.Core.Bool.{Bool, true, false, not, ◌&&◌}
+use mathlib.Core.Bool.{Bool, true, false, not, ◌&&◌, ◌||◌}
 use mathlib.Core.List.{List, [], ◌∷◌}
 use Prim.Native.Nat.{ℕ, suc, ◌+◌, ◌<◌, ◌≤◌, zero-le, suc-le-suc}
 use native.Mathlib.Numerals.{add-one}
@@ -10,7 +10,7 @@ use lib.Dec.{eqb}
 use lib.ListN.{length, drop, take, get_or, drop_of_length-le}
 use lib.Seq.{drop-cons}
 use borrow.Author.Tests.{eq-eqb, ne_eqb, eqb-true, eqb-false}
-use Rattle.std.specs.List.{list_all}
+use Rattle.std.specs.List.{list_any}
 use Rattle.byte.specs.Byte.{pick}
 use Rattle.scan.specs.Scan.{run_from, run, end_of}
 use Rattle.scan.proofs.Runs.{run-stop}
@@ -179,7 +179,7 @@ sign-past s i behind h = rw (drop_of_length-le s h) (by behind)
     by false = refl
 
 -- a value is as it is written where no backslash stands in it
-pub none-written : (s : List ℕ) → list_all (λ b. not (eqb b 92)) s ≡ eqb (length (unescaped s)) (length s)
+pub none-written : (s : List ℕ) → not (list_any (λ b. eqb b 92) s) ≡ eqb (length (unescaped s)) (length s)
 unfolding unescaped_from
 none-written [] = refl
 none-written (a ∷ s) = by (eqb a 92) (shorter-from true s) (none-written s)
@@ -188,7 +188,7 @@ none-written (a ∷ s) = by (eqb a 92) (shorter-from true s) (none-written s)
     on true e = sym (eq-eqb _ _ (ap suc (eqb-true (length (unescaped s)) (length s) e)))
     on false e = let n : length (unescaped s) ≡ length s → ⊥ = eqb-false (length (unescaped s)) (length s) e in sym (ne_eqb _ _ (λ (q : suc (length (unescaped s)) ≡ suc (length s)). n (omega (arith, q))))
 
-    by : (t : Bool) → length (unescaped_from true s) ≤ length s → list_all (λ b. not (eqb b 92)) s ≡ eqb (length (unescaped s)) (length s)
-        → not t && list_all (λ b. not (eqb b 92)) s ≡ eqb (length (pick t (unescaped_from true s) (a ∷ unescaped s))) (suc (length s))
+    by : (t : Bool) → length (unescaped_from true s) ≤ length s → not (list_any (λ b. eqb b 92) s) ≡ eqb (length (unescaped s)) (length s)
+        → not (t || list_any (λ b. eqb b 92) s) ≡ eqb (length (pick t (unescaped_from true s) (a ∷ unescaped s))) (suc (length s))
     by true p e = sym (ne_eqb _ _ (λ (q : length (unescaped_from true s) ≡ suc (length s)). absurd (omega arith)))
     by false p e = e ∙ on (eqb (length (unescaped s)) (length s)) refl

@@ -51,7 +51,7 @@ fn has_room(raw: &[u8], len: usize, at: usize) -> bool
 fn is_as_written(raw: &[u8]) -> bool
     ensures { result ≡ eqb (length (unescaped raw.now)) (length raw.now) }
 {
-    raw.iter().all(|&b| b != b'\\')
+    !raw.contains(&b'\\')
 }
 
 // Writes a value decoded into `dst` from the place `at` on, and answers the place behind it; with no room it writes nothing and answers `at`.

@@ -18,16 +18,17 @@ pub fn at(s: &[u8], i: usize) -> u8
 pub fn part(s: &[u8], a: usize, e: usize) -> &[u8]
     ensures { result.now ≡ part_of a e s.now }
 {
+    // Nearly every part lies inside.
+    if a <= e && e <= s.len() {
+        return &s[a..e];
+    }
     if e <= a {
         return &s[0..0];
     }
     if s.len() <= a {
         return &s[0..0];
     }
-    if s.len() < e {
-        return &s[a..];
-    }
-    &s[a..e]
+    &s[a..]
 }
 
 pub fn is_between(lo: u8, hi: u8, c: u8) -> bool

@@ -16,11 +16,13 @@ pub struct Checked {
 fn ends_plain(stop: u8, b: u8) -> bool
     ensures { result ≡ ends_plain stop b }
 {
-    // Most bytes are letters: they are told by two comparisons.
-    if b'@' < b {
-        return b == stop || 128 <= b;
+    if b == stop {
+        return true;
     }
-    b == stop || b == b'%'
+    if b == b'%' {
+        return true;
+    }
+    128 <= b
 }
 
 // Where the plain bytes from a place on end. They need no decoding and are UTF-8.
