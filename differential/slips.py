@@ -44,9 +44,9 @@ SLIPS = [
     let mut ahead = url_parser::start(prefix);
     loop {
         match taking::take_setting(text, decode, uri, ahead, 0) {
-            Ok(Some(t)) => ahead = t.next,
-            Ok(None) => break,
-            Err(refusal) => return ending::refuse_text(decode, n, refusal.number() as usize, 0, 0),
+            Ok(t) => ahead = t.next,
+            Err(None) => break,
+            Err(Some(refusal)) => return ending::refuse_text(decode, n, refusal.number() as usize, 0, 0),
         }
     }
     let mut packed: usize = 0;
@@ -90,14 +90,14 @@ fn freed(config: &Config, kind: usize, packed: usize) -> usize {
 
 // The settings of a text, applied in order"""),
         ("reader", "        let t = match taking::take_setting(", """\
-        if let Ok(Some(ahead)) = taking::take_setting(text, decode, uri, url, packed) {
+        if let Ok(ahead) = taking::take_setting(text, decode, uri, url, packed) {
             packed = freed(config, ahead.kind, packed);
         }
         let t = match taking::take_setting("""),
     ]),
     ("replaced_value_wiped", [
         ("reader", "        let t = match taking::take_setting(", """\
-        if let Ok(Some(ahead)) = taking::take_setting(text, decode, uri, url, packed) {
+        if let Ok(ahead) = taking::take_setting(text, decode, uri, url, packed) {
             if ahead.kind == 2 {
                 if let Some(place) = config.password {
                     byte::clear(decode, place.start, place.len);
@@ -146,7 +146,7 @@ fn close_up(config: &mut Config, first: usize) {
 """),
     ]),
     ("values_of_every_key_kept", [
-        ("taking", "    matches!(kind, 1 | 2 | 3 | 4 | 5 | 8 | 20)\n", "    kind < 100\n"),
+        ("taking", "        _ => false,\n", "        _ => true,\n"),
     ]),
     # the reader
     ("refusal_leaves_the_buffer", [
@@ -163,7 +163,7 @@ fn close_up(config: &mut Config, first: usize) {
         ("keyvalue", "    if to == from {\n", """\
     if to == from {
         if from < s.len() {
-            return Err(Refusal::NoSign);
+            return Err(Some(Refusal::NoSign));
         }
 """),
     ]),
@@ -172,7 +172,7 @@ fn close_up(config: &mut Config, first: usize) {
         let next = quote + 1;
         if next < s.len() {
             if !scan::starts_space(s, next) {
-                return Err(Refusal::NoSign);
+                return Err(Some(Refusal::NoSign));
             }
         }
 """),
@@ -184,7 +184,7 @@ fn close_up(config: &mut Config, first: usize) {
         ("keyvalue", "        let quote = value.to;\n", """\
         let quote = value.to;
         if value.len == 0 {
-            return Err(Refusal::EmptyValue);
+            return Err(Some(Refusal::EmptyValue));
         }
 """),
     ]),
@@ -222,7 +222,7 @@ fn last_at_sign(s: &[u8], at: usize) -> usize {
         ("uri_step", "    let judged = password.judged;\n", """\
     let judged = password.judged;
     if !judged.utf8 {
-        return Err(Refusal::NotUtf8);
+        return Err(Some(Refusal::NotUtf8));
     }
 """),
     ]),
@@ -233,12 +233,12 @@ fn last_at_sign(s: &[u8], at: usize) -> usize {
         ("uri_values", "utf8: first == b'/',", "utf8: false,"),
     ]),
     ("last_ampersand_refused", [
-        ("uri_step", "    if s.len() <= at {\n        return Ok(None);\n", """\
+        ("uri_step", "    if s.len() <= at {\n        return Err(None);\n", """\
     if s.len() <= at {
         if byte::at(s, at - 1) == b'&' {
-            return Err(Refusal::NoEquals);
+            return Err(Some(Refusal::NoEquals));
         }
-        return Ok(None);
+        return Err(None);
 """),
     ]),
     ("key_of_a_parameter_not_decoded", [

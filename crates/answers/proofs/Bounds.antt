@@ -75,9 +75,9 @@ kind-most (one_host v) = omega arith
 -- a reading has at most two settings for each byte, and two more
 reads-most : (s : List ℕ) (st : Step) (on : ℕ → Reading) (m : ℕ) → ((n : ℕ) → length (on n).settings ≤ m) → length (reads s st on).settings ≤ suc m
 unfolding reads
-reads-most s (Ok None) on m h = omega arith
-reads-most s (Err r) on m h = omega arith
-reads-most s (Ok (Some p)) on m h = let g : length (on p.next).settings ≤ m = h p.next in omega arith
+reads-most s (Err None) on m h = omega arith
+reads-most s (Err (Some r)) on m h = omega arith
+reads-most s (Ok p) on m h = let g : length (on p.next).settings ≤ m = h p.next in omega arith
 
 pairs-most : (k : ℕ) (s : List ℕ) → length (key_value_from k s).settings ≤ length s
 unfolding key_value_from

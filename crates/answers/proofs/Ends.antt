@@ -77,9 +77,9 @@ step_end s at = key-end s (end_of space_len s at)
 
 reads_end : (s : List ℕ) (st : Step) (go : ℕ → Reading) → StepEnd st → ((n : ℕ) → End (go n)) → End (reads s st go)
 unfolding reads
-reads_end s (Ok None) go h g = stop 0 (omega arith)
-reads_end s (Err r) go (refuses h) g = stop (refusal_number r) h
-reads_end s (Ok (Some p)) go h g = on _ (g p.next)
+reads_end s (Err None) go h g = stop 0 (omega arith)
+reads_end s (Err (Some r)) go (refuses h) g = stop (refusal_number r) h
+reads_end s (Ok p) go h g = on _ (g p.next)
 
 pairs_end : (k : ℕ) (s : List ℕ) → End (key_value_from k s)
 unfolding key_value_from

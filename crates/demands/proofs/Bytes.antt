@@ -116,9 +116,9 @@ module _ (s : List ℕ) (bs : Bytes s) where
         by : (step : UrlStep) → next_at s is_uri u ≡ step
             → ((w : Url) → w.at ≤ length s → measure s is_uri w < n → Valued (from s is_uri w).settings)
             → Valued (from s is_uri u).settings
-        by (Ok None) e below = subst (λ (r : Reading). Valued r.settings) (sym (next-over s is_uri u h e)) tt
-        by (Err x) e below = subst (λ (r : Reading). Valued r.settings) (sym (next-refused s is_uri u x h e)) tt
-        by (Ok (Some f)) e below =
+        by (Err None) e below = subst (λ (r : Reading). Valued r.settings) (sym (next-over s is_uri u h e)) tt
+        by (Err (Some x)) e below = subst (λ (r : Reading). Valued r.settings) (sym (next-refused s is_uri u x h e)) tt
+        by (Ok f) e below =
             let x : Next s is_uri u f = next-found s is_uri u f h e in
             subst (λ (r : Reading). Valued r.settings) (sym x.reads)
             (subst Bytes (sym x.value) (value-bytes is_uri f), below f.next x.inside (omega (arith, x.falls)))

@@ -34,12 +34,12 @@ module _ (s : List ℕ) where
   pair_ends (suc n) at l = by (parameter_at s at) refl (pair_ends n)
     where
       by : (step : Step) → parameter_at s at ≡ step → ((to : ℕ) → length s - to < n → Ending (key_value (drop to s)).end) → Ending (key_value (drop at s)).end
-      by (Ok None) e below = inl (ap (λ (r : Reading). r.end) (reading-done s at e))
-      by (Err x) e below =
+      by (Err None) e below = inl (ap (λ (r : Reading). r.end) (reading-done s at e))
+      by (Err (Some x)) e below =
           let k : Number (refusal_number x) = number s at x e in
           let q : (key_value (drop at s)).end ≡ refusal_number x = ap (λ (r : Reading). r.end) (reading-refused s at x e) in
           inr (omega (arith, k.low), omega (arith, k.high))
-      by (Ok (Some p)) e below =
+      by (Ok p) e below =
           let k : Stands s at p.key p.value p.next = stands s at p.key p.value p.next e in
           subst Ending (ap (λ (r : Reading). r.end) (sym (reading-found s at p.key p.value p.next e))) (below p.next (omega (arith, k.grows, k.within)))
 

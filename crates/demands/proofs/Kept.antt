@@ -54,9 +54,9 @@ module _ (s : List ℕ) (is_uri : Bool) where
   fit-below (suc n) u h l = by (next_at s is_uri u) refl (fit-below n)
     where
       by : (step : UrlStep) → next_at s is_uri u ≡ step → ((w : Url) → w.at ≤ length s → measure s is_uri w < n → Fit w (from s is_uri w)) → Fit u (from s is_uri u)
-      by (Ok None) e below = subst (Fit u) (sym (next-over s is_uri u h e)) (omega arith, omega arith)
-      by (Err x) e below = subst (Fit u) (sym (next-refused s is_uri u x h e)) (omega arith, omega arith)
-      by (Ok (Some f)) e below =
+      by (Err None) e below = subst (Fit u) (sym (next-over s is_uri u h e)) (omega arith, omega arith)
+      by (Err (Some x)) e below = subst (Fit u) (sym (next-refused s is_uri u x h e)) (omega arith, omega arith)
+      by (Ok f) e below =
           let x : Next s is_uri u f = next-found s is_uri u f h e in
           fit_found u f x (below f.next x.inside (omega (arith, x.falls)))
 

@@ -32,9 +32,9 @@ abbrev moved_raw : ℕ → Raw → Raw
 moved_raw at v = record { from = at + v.from; to = at + v.to; len = v.len }
 
 moved : ℕ → Step → Step
-moved at (Ok None) = clean
-moved at (Err r) = broken r
-moved at (Ok (Some p)) = pair (moved_key at p.key) (moved_raw at p.value) (at + p.next)
+moved at (Err None) = clean
+moved at (Err (Some r)) = broken r
+moved at (Ok p) = pair (moved_key at p.key) (moved_raw at p.value) (at + p.next)
 
 moved-pick : (at : ℕ) (t : Bool) (p q : Step) → moved at (pick t p q) ≡ pick t (moved at p) (moved at q)
 moved-pick at true p q = refl
@@ -128,9 +128,9 @@ module _ (s : List ℕ) (at : ℕ) where
 
   reads-moved : (step : Step) (on : ℕ → Reading) → reads s (moved at step) on ≡ reads (drop at s) step (λ n. on (at + n))
   unfolding reads moved
-  reads-moved (Ok None) on = refl
-  reads-moved (Err r) on = refl
-  reads-moved (Ok (Some p)) on = rw (part_moved p.key.from p.key.to, part_moved p.value.from p.value.to)
+  reads-moved (Err None) on = refl
+  reads-moved (Err (Some r)) on = refl
+  reads-moved (Ok p) on = rw (part_moved p.key.from p.key.to, part_moved p.value.from p.value.to)
 
 -- to leave bytes out is to read what is left
 skip : (k : ℕ) (s : List ℕ) → key_value_from k s ≡ key_value (drop k s)
@@ -143,9 +143,9 @@ skip (suc k) (a ∷ s) = skip k s
 -- two readings that go on alike
 reads-alike : (s : List ℕ) (step : Step) (on other : ℕ → Reading) → ((key : Key) (value : Raw) (next : ℕ) → step ≡ pair key value next → on next ≡ other next) → reads s step on ≡ reads s step other
 unfolding reads
-reads-alike s (Ok None) on other h = refl
-reads-alike s (Err r) on other h = refl
-reads-alike s (Ok (Some p)) on other h = ap (λ (r : Reading). follows (keyed (part s p.key.from p.key.to) (unescaped (part s p.value.from p.value.to))) r) (h p.key p.value p.next refl)
+reads-alike s (Err None) on other h = refl
+reads-alike s (Err (Some r)) on other h = refl
+reads-alike s (Ok p) on other h = ap (λ (r : Reading). follows (keyed (part s p.key.from p.key.to) (unescaped (part s p.value.from p.value.to))) r) (h p.key p.value p.next refl)
 
 nothing : ends 0 ≡ reads [] (parameter_at [] 0) (λ n. key_value (drop n []))
 unfolding reads parameter_at key_at run_from

@@ -16,16 +16,16 @@ use Rattle.keyvalue.specs.Scan.{end_of, part, space_len, key_len, quoted_len, si
 
 -- what stands at a place: a parameter, the clean end, or a refusal
 abbrev pub Step : Type 0
-Step = Result (Option Pair) Refusal
+Step = Result Pair (Option Refusal)
 
 abbrev pub clean : Step
-clean = Ok None
+clean = Err None
 
 abbrev pub broken : Refusal → Step
-broken r = Err r
+broken r = Err (Some r)
 
 abbrev pub pair : Key → Raw → ℕ → Step
-pair key value next = Ok (Some (record { key = key; value = value; next = next }))
+pair key value next = Ok (record { key = key; value = value; next = next })
 
 -- where a key stands, and its number
 abbrev pub key_of : List ℕ → ℕ → ℕ → Key
@@ -62,9 +62,9 @@ parameter_at s at = key_at s (end_of space_len s at)
 
 -- a step as the start of a reading, which goes on at the next place
 unfoldable pub reads : List ℕ → Step → (ℕ → Reading) → Reading
-reads s (Ok None) on = ends 0
-reads s (Err r) on = ends (refusal_number r)
-reads s (Ok (Some p)) on =
+reads s (Err None) on = ends 0
+reads s (Err (Some r)) on = ends (refusal_number r)
+reads s (Ok p) on =
     follows (keyed (part s p.key.from p.key.to) (unescaped (part s p.value.from p.value.to))) (on p.next)
 
 -- the reading of what follows the first k bytes

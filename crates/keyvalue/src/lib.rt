@@ -115,7 +115,7 @@ fn quoted_value(s: &[u8], at: usize) -> Raw
 }
 
 // A parameter's value, quoted or not, and so the whole parameter.
-fn value(s: &[u8], key: Key, at: usize) -> Result<Option<Pair>, Refusal>
+fn value(s: &[u8], key: Key, at: usize) -> Result<Pair, Option<Refusal>>
     ensures { result ≡ value_at s.now key at }
 {
     if byte::at(s, at) == b'\'' {
@@ -123,34 +123,34 @@ fn value(s: &[u8], key: Key, at: usize) -> Result<Option<Pair>, Refusal>
         let value = quoted_value(s, start);
         let quote = value.to;
         if s.len() <= quote {
-            return Err(Refusal::OpenQuote);
+            return Err(Some(Refusal::OpenQuote));
         }
         let next = quote + 1;
-        return Ok(Some(Pair { key, value, next }));
+        return Ok(Pair { key, value, next });
     }
     let value = simple_value(s, at);
     if value.len == 0 {
-        return Err(Refusal::EmptyValue);
+        return Err(Some(Refusal::EmptyValue));
     }
     let next = value.to;
-    Ok(Some(Pair { key, value, next }))
+    Ok(Pair { key, value, next })
 }
 
-// The parameter that stands at a place, or none where the reading ends cleanly there.
-pub fn parameter(s: &[u8], at: usize) -> Result<Option<Pair>, Refusal>
+// The parameter that stands at a place; or the end of the reading there, clean or a refusal.
+pub fn parameter(s: &[u8], at: usize) -> Result<Pair, Option<Refusal>>
     ensures { result ≡ parameter_at s.now at }
 {
     let from = scan::skip_ws(s, at);
     let to = scan::keyword(s, from);
     if to == from {
-        return Ok(None);
+        return Err(None);
     }
     let sign = scan::skip_ws(s, to);
     if s.len() <= sign {
-        return Err(Refusal::KeyAlone);
+        return Err(Some(Refusal::KeyAlone));
     }
     if s[sign] != b'=' {
-        return Err(Refusal::NoSign);
+        return Err(Some(Refusal::NoSign));
     }
     let number = names::key_number(&s[from..to]);
     let key = Key { number, from, to };

@@ -46,10 +46,10 @@ refusal-numbered NoEquals e = omega arith
 refusal-numbered NotUtf8 e = omega arith
 
 -- the number of an end, which a setting is not
-abbrev pub Ends : Result (Option Taken) Refusal → ℕ → Type 0
-Ends (Ok None) k = k ≡ 0
-Ends (Err r) k = k ≡ refusal_number r
-Ends (Ok (Some t)) k = ⊥
+abbrev pub Ends : Result Taken (Option Refusal) → ℕ → Type 0
+Ends (Err None) k = k ≡ 0
+Ends (Err (Some r)) k = k ≡ refusal_number r
+Ends (Ok t) k = ⊥
 
 -- a setting in front of others, applied or not
 module _ (c : Config) (b : List ℕ) (n : ℕ) (x : Setting) (r : Reading) (a : Applied) (is : a ≡ applied (kind_of x) (value_of x) (length b) c) where
@@ -148,46 +148,46 @@ module _ (s d₀ : List ℕ) (uri : Bool) (m : ℕ) (d : List ℕ) (st : State) 
         next = f.next;
       }
 
-  one : (t x : Taken) → ◌≡◌ {A = Result (Option Taken) Refusal} (Ok (Some t)) (Ok (Some x)) → t ≡ x
+  one : (t x : Taken) → ◌≡◌ {A = Result Taken (Option Refusal)} (Ok t) (Ok x) → t ≡ x
   one t x e = cc
 
-  on-by : (step : UrlStep) → next_at s uri st.url ≡ step → (t : Taken) → Ok (Some t) ≡ taken_by s uri st.packed d step
+  on-by : (step : UrlStep) → next_at s uri st.url ≡ step → (t : Taken) → Ok t ≡ taken_by s uri st.packed d step
       → (l : List ℕ) → l ≡ left_by s uri st.packed d step → (a : Applied) → a ≡ applied t.kind (part_of st.packed t.end l) st.packed st.config → is_fine a.fault ≡ true
       → Going s d₀ uri m l (record { config = a.config; packed = t.packed; url = t.next }) (n + 1) × (measure s uri t.next < measure s uri st.url)
-  on-by (Ok None) e t is l w a gave fine = cc
-  on-by (Err r) e t is l w a gave fine = cc
-  on-by (Ok (Some f)) e t is l w a gave fine =
+  on-by (Err None) e t is l w a gave fine = cc
+  on-by (Err (Some r)) e t is l w a gave fine = cc
+  on-by (Ok f) e t is l w a gave fine =
       let x = next-found s uri st.url f g.at e in
       let same : t ≡ given f = one t (given f) is in
       rw (same, w) (going f (value_at s uri f) refl x a (rw (same, w) at gave) fine (keeps f.kind) refl, x.falls)
 
-  off-by : (step : UrlStep) → next_at s uri st.url ≡ step → (t : Taken) → Ok (Some t) ≡ taken_by s uri st.packed d step
+  off-by : (step : UrlStep) → next_at s uri st.url ≡ step → (t : Taken) → Ok t ≡ taken_by s uri st.packed d step
       → (l : List ℕ) → l ≡ left_by s uri st.packed d step → (a : Applied) → a ≡ applied t.kind (part_of st.packed t.end l) st.packed st.config → is_fine a.fault ≡ false
       → Packed (length s) d₀ g.bytes l × (outcome_of s ≡ refused (number_of a.fault) (key_of a.fault t.kind) n)
-  off-by (Ok None) e t is l w a gave fine = cc
-  off-by (Err r) e t is l w a gave fine = cc
-  off-by (Ok (Some f)) e t is l w a gave fine =
+  off-by (Err None) e t is l w a gave fine = cc
+  off-by (Err (Some r)) e t is l w a gave fine = cc
+  off-by (Ok f) e t is l w a gave fine =
       let same : t ≡ given f = one t (given f) is in
       rw (same, w) (faulty f (value_at s uri f) refl (next-found s uri st.url f g.at e) a (rw (same, w) at gave) fine)
 
   -- an end, clean or broken
   end_by : (step : UrlStep) → next_at s uri st.url ≡ step → (k : ℕ) → Ends (taken_by s uri st.packed d step) k
       → (l : List ℕ) → l ≡ left_by s uri st.packed d step → Packed (length s) d₀ g.bytes l × (outcome_of s ≡ ended st.config g.bytes n k)
-  end_by (Ok None) e k is l w =
+  end_by (Err None) e k is l w =
       rw (is, w) (
         g.packed,
         g.comes ∙ ap (λ (r : Reading). outcome st.config g.bytes n r.settings r.end) (next-over s uri st.url g.at e) ∙ outcome-end st.config g.bytes n 0,
       )
-  end_by (Err x) e k is l w =
+  end_by (Err (Some x)) e k is l w =
       rw (is, w) (
         g.packed,
         g.comes ∙ ap (λ (r : Reading). outcome st.config g.bytes n r.settings r.end) (next-refused s uri st.url x g.at e) ∙ outcome-end st.config g.bytes n (refusal_number x),
       )
-  end_by (Ok (Some f)) e k is l w = absurd is
+  end_by (Ok f) e k is l w = absurd is
 
   -- what a turn took, and what it wrote
-  module _ (r : Result (Option Taken) Refusal) (is : r ≡ taken_of s uri st.url st.packed d) (l : List ℕ) (w : l ≡ taken_leaves s uri st.url st.packed d) where
-    module _ (t : Taken) (q : r ≡ Ok (Some t)) (a : Applied) (gave : a ≡ applied t.kind (part_of st.packed t.end l) st.packed st.config) where
+  module _ (r : Result Taken (Option Refusal)) (is : r ≡ taken_of s uri st.url st.packed d) (l : List ℕ) (w : l ≡ taken_leaves s uri st.url st.packed d) where
+    module _ (t : Taken) (q : r ≡ Ok t) (a : Applied) (gave : a ≡ applied t.kind (part_of st.packed t.end l) st.packed st.config) where
       pub go_on : is_fine a.fault ≡ true → Going s d₀ uri m l (record { config = a.config; packed = t.packed; url = t.next }) (n + 1) × (measure s uri t.next < measure s uri st.url)
       unfolding taken_of taken_leaves
       go_on fine = on-by (next_at s uri st.url) refl t (sym q ∙ is) l w a gave fine

@@ -38,9 +38,9 @@ abbrev pub state : Config → ℕ → Url → State
 state c at u = record { config = c; packed = at; url = u }
 
 module _ (s d₀ : List ℕ) (uri : Bool) (d : List ℕ) (c : Config) (at : ℕ) (u : Url) (n : ℕ) (g : Going s d₀ uri 8194 d (state c at u) n) (long : length s ≤ length d₀)
-    (took : Result (Option Taken) Refusal) (is : took ≡ taken_of s uri u at d) (l : List ℕ) (w : l ≡ taken_leaves s uri u at d) where
+    (took : Result Taken (Option Refusal)) (is : took ≡ taken_of s uri u at d) (l : List ℕ) (w : l ≡ taken_leaves s uri u at d) where
   -- what is applied comes to the verdict f and, with none refused, to the record r
-  module _ (t : Taken) (q : took ≡ Ok (Some t)) (f : Result ⊤ Fault) (r : Config) (x : Sets f (applied t.kind (part_of at t.end l) at c) r) where
+  module _ (t : Taken) (q : took ≡ Ok t) (f : Result ⊤ Fault) (r : Config) (x : Sets f (applied t.kind (part_of at t.end l) at c) r) where
     pub goes : is_fine f ≡ true → Going s d₀ uri 8194 l (state r t.packed t.next) (n + 1) × (measure s uri t.next < measure s uri u)
     goes e =
         let fine : is_fine (applied t.kind (part_of at t.end l) at c).fault ≡ true = ap is_fine (sym x.0) ∙ e in
@@ -58,14 +58,14 @@ module _ (s d₀ : List ℕ) (uri : Bool) (d : List ℕ) (c : Config) (at : ℕ)
   unfolding slack
   low = omega (arith, g.low, g.at)
 
-  pub end-accepts : took ≡ Ok None
+  pub end-accepts : took ≡ Err None
       → (ending 0 0 n ≡ ending_of (outcome_of s).answer) × (written l at (replicate (length s - at) 0) ≡ filled s (outcome_of s).packed d₀) × (c ≡ (outcome_of s).answer.config)
   end-accepts q =
       let o = at-end s d₀ uri 8194 d (state c at u) n g long took is l w 0 (rw q refl) in
       let p = end-fine s d₀ l g.bytes o.0 long c n at 0 g.long low refl o.1 in
       (ap ending_of p.0, p.1, ap (λ (y : Answer). y.config) p.0)
 
-  pub end-refuses : (r : Refusal) → took ≡ Err r
+  pub end-refuses : (r : Refusal) → took ≡ Err (Some r)
       → (ending (refusal_number r) 0 n ≡ ending_of (outcome_of s).answer) × (written l 0 (replicate (length s) 0) ≡ filled s (outcome_of s).packed d₀) × (refusal_number r ≡ 0 → ⊥)
   end-refuses r q =
       let o = at-end s d₀ uri 8194 d (state c at u) n g long took is l w (refusal_number r) (rw q refl) in

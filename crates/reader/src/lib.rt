@@ -24,9 +24,9 @@ fn read_settings(text: &[u8], decode: &mut [u8], config: &mut Config) -> Ending
     let mut count: usize = 0;
     loop {
         let t = match taking::take_setting(text, decode, uri, url, packed) {
-            Ok(Some(t)) => t,
-            Ok(None) => return ending::accept(decode, n, packed, count),
-            Err(refusal) => {
+            Ok(t) => t,
+            Err(None) => return ending::accept(decode, n, packed, count),
+            Err(Some(refusal)) => {
                 return ending::refuse_text(decode, n, refusal.number() as usize, 0, count);
             }
         };

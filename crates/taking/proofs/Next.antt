@@ -76,23 +76,23 @@ module _ (s : List ℕ) (u : Url) (key : Key) (value : Raw) (next : ℕ) (step :
       }
 
 pair_found : (s : List ℕ) (u : Url) (step : Step) → parameter_at s u.at ≡ step → (f : Found) → as_url_step step ≡ given f → Next s false u f
-pair_found s u (Ok None) e f q = let z : ◌≡◌ {A = ℕ} 0 1 = cc in absurd (omega arith)
-pair_found s u (Err r) e f q = let z : ◌≡◌ {A = ℕ} 0 1 = cc in absurd (omega arith)
-pair_found s u (Ok (Some p)) e f q =
+pair_found s u (Err None) e f q = let z : ◌≡◌ {A = ℕ} 0 1 = cc in absurd (omega arith)
+pair_found s u (Err (Some r)) e f q = let z : ◌≡◌ {A = ℕ} 0 1 = cc in absurd (omega arith)
+pair_found s u (Ok p) e f q =
     let r : record { kind = p.key.number; from = p.value.from; to = p.value.to; len = p.value.len; fixed = false; next = url Stage.Credentials p.next } ≡ f = cc in
     subst (Next s false u) r (pair-next s u p.key p.value p.next e)
 
 pair_over : (s : List ℕ) (u : Url) (step : Step) → parameter_at s u.at ≡ step → as_url_step step ≡ over → from s false u ≡ ends 0
 unfolding from
-pair_over s u (Ok None) e q = reading-done s u.at e
-pair_over s u (Err r) e q = let z : ◌≡◌ {A = ℕ} 0 1 = cc in absurd (omega arith)
-pair_over s u (Ok (Some p)) e q = let z : ◌≡◌ {A = ℕ} 0 1 = cc in absurd (omega arith)
+pair_over s u (Err None) e q = reading-done s u.at e
+pair_over s u (Err (Some r)) e q = let z : ◌≡◌ {A = ℕ} 0 1 = cc in absurd (omega arith)
+pair_over s u (Ok p) e q = let z : ◌≡◌ {A = ℕ} 0 1 = cc in absurd (omega arith)
 
 pair_refused : (s : List ℕ) (u : Url) (step : Step) → parameter_at s u.at ≡ step → (r : Refusal) → as_url_step step ≡ refused r → from s false u ≡ ends (refusal_number r)
 unfolding from
-pair_refused s u (Ok None) e r q = let z : ◌≡◌ {A = ℕ} 0 1 = cc in absurd (omega arith)
-pair_refused s u (Err m) e r q = let same : m ≡ r = cc in reading-refused s u.at m e ∙ ap (λ (x : Refusal). ends (refusal_number x)) same
-pair_refused s u (Ok (Some p)) e r q = let z : ◌≡◌ {A = ℕ} 0 1 = cc in absurd (omega arith)
+pair_refused s u (Err None) e r q = let z : ◌≡◌ {A = ℕ} 0 1 = cc in absurd (omega arith)
+pair_refused s u (Err (Some m)) e r q = let same : m ≡ r = cc in reading-refused s u.at m e ∙ ap (λ (x : Refusal). ends (refusal_number x)) same
+pair_refused s u (Ok p) e r q = let z : ◌≡◌ {A = ℕ} 0 1 = cc in absurd (omega arith)
 
 -- port's value is not kept
 no-port : {A : Type 0} → (kind : ℕ) → kind ≡ 10 → keeps kind ≡ true → A

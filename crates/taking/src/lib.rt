@@ -24,31 +24,39 @@ pub struct Taken {
 fn keeps_value(kind: usize) -> bool
     ensures { result ≡ keeps kind }
 {
-    matches!(kind, 1 | 2 | 3 | 4 | 5 | 8 | 20)
-}
-
-// A parameter of a key-value text in the words of a URI's step.
-fn next_parameter(text: &[u8], at: usize) -> Result<Option<Found>, Refusal>
-    ensures { result ≡ as_url_step (parameter_at text.now at) }
-{
-    match keyvalue::parameter(text, at)? {
-        None => Ok(None),
-        Some(p) => Ok(Some(Found {
-            kind: p.key.number,
-            from: p.value.from,
-            to: p.value.to,
-            len: p.value.len,
-            fixed: false,
-            next: Url {
-                stage: Stage::Credentials,
-                at: p.next,
-            },
-        })),
+    // An arm for each: a compiler makes one test of a set of bits of them, and a chain of comparisons of alternatives.
+    match kind {
+        1 => true,
+        2 => true,
+        3 => true,
+        4 => true,
+        5 => true,
+        8 => true,
+        20 => true,
+        _ => false,
     }
 }
 
+// A parameter of a key-value text in the words of a URI's step.
+fn next_parameter(text: &[u8], at: usize) -> Result<Found, Option<Refusal>>
+    ensures { result ≡ as_url_step (parameter_at text.now at) }
+{
+    let p = keyvalue::parameter(text, at)?;
+    Ok(Found {
+        kind: p.key.number,
+        from: p.value.from,
+        to: p.value.to,
+        len: p.value.len,
+        fixed: false,
+        next: Url {
+            stage: Stage::Credentials,
+            at: p.next,
+        },
+    })
+}
+
 // The flag stays: it is an argument of the public take_setting and of the definitions next_at and value_at, on which theorems of crate demands stand.
-fn next_setting(text: &[u8], uri: bool, u: Url) -> Result<Option<Found>, Refusal>
+fn next_setting(text: &[u8], uri: bool, u: Url) -> Result<Found, Option<Refusal>>
     ensures { result ≡ next_at text.now uri u }
 {
     if uri {
@@ -75,27 +83,23 @@ fn packed_after(kind: usize, at: usize, end: usize) -> usize
     if keeps_value(kind) { end } else { at }
 }
 
-// One setting read, and its value written behind what is packed; none at a clean end, or why the reading ends before.
+// One setting read, and its value written behind what is packed; or the reading's end, clean or a refusal.
 pub fn take_setting(
     text: &[u8],
     decode: &mut [u8],
     uri: bool,
     u: Url,
     at: usize,
-) -> Result<Option<Taken>, Refusal>
+) -> Result<Taken, Option<Refusal>>
     ensures value { result ≡ taken_of text.now uri u at decode.old }
     ensures decode_after { decode.new ≡ taken_leaves text.now uri u at decode.old }
 {
-    match next_setting(text, uri, u)? {
-        None => Ok(None),
-        Some(f) => {
-            let end = put_value(text, uri, f, decode, at);
-            Ok(Some(Taken {
-                kind: f.kind,
-                end,
-                packed: packed_after(f.kind, at, end),
-                next: f.next,
-            }))
-        }
-    }
+    let f = next_setting(text, uri, u)?;
+    let end = put_value(text, uri, f, decode, at);
+    Ok(Taken {
+        kind: f.kind,
+        end,
+        packed: packed_after(f.kind, at, end),
+        next: f.next,
+    })
 }

@@ -8,7 +8,7 @@ use setting::Refusal;
 use url_parser::{Found, ONE_HOST, PORT, Stage, Url};
 
 // A chunk's host, read once where it is plain.
-pub fn parse_chunk(s: &[u8], at: usize) -> Result<Option<Found>, Refusal>
+pub fn parse_chunk(s: &[u8], at: usize) -> Result<Found, Option<Refusal>>
     ensures { result ≡ chunk_step at (drop at s.now) }
 {
     if byte::at(s, at) == b'[' {
@@ -21,26 +21,26 @@ pub fn parse_chunk(s: &[u8], at: usize) -> Result<Option<Found>, Refusal>
             stage: Stage::Port,
             at: to,
         };
-        return Ok(Some(Found {
+        return Ok(Found {
             kind: ONE_HOST,
             from: at,
             to,
             len,
             fixed: false,
             next,
-        }));
+        });
     }
     parse_placed(s, at)
 }
 
 // A chunk's host by its place; a bracket fault is told before anything is decoded.
-fn parse_placed(s: &[u8], at: usize) -> Result<Option<Found>, Refusal>
+fn parse_placed(s: &[u8], at: usize) -> Result<Found, Option<Refusal>>
     ensures { result ≡ chunk_step at (drop at s.now) }
 {
     let end = uri_chunks::chunk_end(s, at);
     let c = byte::part(s, at, end);
     match uri_chunks::host_place(c) {
-        None => Err(Refusal::Bracket),
+        None => Err(Some(Refusal::Bracket)),
         Some(p) => {
             let judged = uri_values::host_param(byte::part(c, p.from, p.to));
             let next = Url {
@@ -70,20 +70,20 @@ fn behind_chunk(s: &[u8], at: usize) -> Url
 }
 
 // The port of the chunk whose host was given: what stands behind its `:`, or 5432.
-pub fn parse_port(s: &[u8], at: usize) -> Result<Option<Found>, Refusal>
+pub fn parse_port(s: &[u8], at: usize) -> Result<Found, Option<Refusal>>
     ensures { result ≡ port_step at (drop at s.now) }
 {
     let end = uri_chunks::chunk_end(s, at);
     let next = behind_chunk(s, end);
     if end <= at {
-        return Ok(Some(Found {
+        return Ok(Found {
             kind: PORT,
             from: at,
             to: at,
             len: 4,
             fixed: true,
             next,
-        }));
+        });
     }
     let from = at + 1;
     let judged = percent_check::check(byte::part(s, from, end));

@@ -7,7 +7,7 @@ ghost use Rattle.url_parser.specs.Step.{credentials_step, password_step, host_st
 use setting::Refusal;
 use url_parser::{DBNAME, Found, NO_KEY, ONE_HOST, PASSWORD, Stage, USER, Url};
 
-pub fn step(s: &[u8], u: Url) -> Result<Option<Found>, Refusal>
+pub fn step(s: &[u8], u: Url) -> Result<Found, Option<Refusal>>
     ensures { result ≡ step_at s.now u }
 {
     let stage = u.stage;
@@ -25,7 +25,7 @@ pub fn step(s: &[u8], u: Url) -> Result<Option<Found>, Refusal>
 }
 
 // "If an `@` stands anywhere in the rest": the user up to the first `:` before it.
-fn parse_credentials(s: &[u8], at: usize) -> Result<Option<Found>, Refusal>
+fn parse_credentials(s: &[u8], at: usize) -> Result<Found, Option<Refusal>>
     ensures { result ≡ credentials_step at (drop at s.now) }
 {
     let end = split::find(s, at, b'@');
@@ -52,7 +52,7 @@ fn parse_credentials(s: &[u8], at: usize) -> Result<Option<Found>, Refusal>
 }
 
 // The password, which needn't be UTF-8, up to the same `@`.
-fn parse_password(s: &[u8], at: usize) -> Result<Option<Found>, Refusal>
+fn parse_password(s: &[u8], at: usize) -> Result<Found, Option<Refusal>>
     ensures { result ≡ password_step at (drop at s.now) }
 {
     let password = percent_check::check_until(s, at, b'@');
@@ -62,18 +62,18 @@ fn parse_password(s: &[u8], at: usize) -> Result<Option<Found>, Refusal>
         stage: Stage::Host,
         at: uri_values::skip(s, end),
     };
-    Ok(Some(Found {
+    Ok(Found {
         kind: PASSWORD,
         from: at,
         to: end,
         len: judged.len,
         fixed: false,
         next,
-    }))
+    })
 }
 
 // Chunks of hosts, unless there is none.
-fn parse_host(s: &[u8], at: usize) -> Result<Option<Found>, Refusal>
+fn parse_host(s: &[u8], at: usize) -> Result<Found, Option<Refusal>>
     ensures { result ≡ host_step at (drop at s.now) }
 {
     if s.len() <= at {
@@ -85,7 +85,7 @@ fn parse_host(s: &[u8], at: usize) -> Result<Option<Found>, Refusal>
     uri_hosts::parse_chunk(s, at)
 }
 
-fn parse_path(s: &[u8], at: usize) -> Result<Option<Found>, Refusal>
+fn parse_path(s: &[u8], at: usize) -> Result<Found, Option<Refusal>>
     ensures { result ≡ path_step at (drop at s.now) }
 {
     if byte::at(s, at) != b'/' {
@@ -95,7 +95,7 @@ fn parse_path(s: &[u8], at: usize) -> Result<Option<Found>, Refusal>
 }
 
 // The dbname, set only if it is not empty.
-fn parse_database(s: &[u8], at: usize) -> Result<Option<Found>, Refusal>
+fn parse_database(s: &[u8], at: usize) -> Result<Found, Option<Refusal>>
     ensures { result ≡ database_step at (drop at s.now) }
 {
     let dbname = percent_check::check_until(s, at, b'?');
@@ -111,34 +111,34 @@ fn parse_database(s: &[u8], at: usize) -> Result<Option<Found>, Refusal>
     uri_values::decode(DBNAME, at, end, judged, next)
 }
 
-fn parse_params(s: &[u8], at: usize) -> Result<Option<Found>, Refusal>
+fn parse_params(s: &[u8], at: usize) -> Result<Found, Option<Refusal>>
     ensures { result ≡ params_step at (drop at s.now) }
 {
     if byte::at(s, at) != b'?' {
-        return Ok(None);
+        return Err(None);
     }
     parse_parameter(s, at + 1)
 }
 
 // One parameter: its `=` is looked for before its key is decoded, and its key is judged before its value.
-fn parse_parameter(s: &[u8], at: usize) -> Result<Option<Found>, Refusal>
+fn parse_parameter(s: &[u8], at: usize) -> Result<Found, Option<Refusal>>
     ensures { result ≡ parameter_step at (drop at s.now) }
 {
     if s.len() <= at {
-        return Ok(None);
+        return Err(None);
     }
     let end = split::find(s, at, b'=');
     if s.len() <= end {
-        return Err(Refusal::NoEquals);
+        return Err(Some(Refusal::NoEquals));
     }
     let kind = uri_keys::parse_key(byte::part(s, at, end));
     if kind == NO_KEY {
-        return Err(Refusal::NotUtf8);
+        return Err(Some(Refusal::NotUtf8));
     }
     parse_value(s, kind, end + 1)
 }
 
-fn parse_value(s: &[u8], kind: usize, at: usize) -> Result<Option<Found>, Refusal>
+fn parse_value(s: &[u8], kind: usize, at: usize) -> Result<Found, Option<Refusal>>
     ensures { result ≡ value_step kind at (drop at s.now) }
 {
     if kind == ONE_HOST {

@@ -30,20 +30,20 @@ pub fn decode(
     to: usize,
     c: percent_check::Checked,
     next: Url,
-) -> Result<Option<Found>, Refusal>
+) -> Result<Found, Option<Refusal>>
     ensures { result ≡ give kind from to c next }
 {
     if c.utf8 {
-        return Ok(Some(Found {
+        return Ok(Found {
             kind,
             from,
             to,
             len: c.len,
             fixed: false,
             next,
-        }));
+        });
     }
-    Err(Refusal::NotUtf8)
+    Err(Some(Refusal::NotUtf8))
 }
 
 // Behind the byte at a place, unless the text ends there.
@@ -69,7 +69,7 @@ pub fn host_param(v: &[u8]) -> percent_check::Checked
 }
 
 // One host, which may be a Unix path; any other value must be UTF-8.
-pub fn parse_one_host(s: &[u8], at: usize) -> Result<Option<Found>, Refusal>
+pub fn parse_one_host(s: &[u8], at: usize) -> Result<Found, Option<Refusal>>
     ensures { result ≡ value_step 20 at (drop at s.now) }
 {
     let end = split::find(s, at, b'&');

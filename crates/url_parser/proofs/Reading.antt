@@ -70,16 +70,16 @@ pub record Gives (s : List ℕ) (at m : ℕ) (R : Reading) (f : Found) : Type 0 
   pub falls : left s f.next < m
 
 abbrev pub Says : List ℕ → ℕ → ℕ → Reading → UrlStep → Type 0
-Says s at m R (Ok (Some f)) = Gives s at m R f
-Says s at m R (Ok None) = R ≡ ends 0
-Says s at m R (Err r) = R ≡ ends (refusal_number r)
+Says s at m R (Ok f) = Gives s at m R f
+Says s at m R (Err None) = R ≡ ends 0
+Says s at m R (Err (Some r)) = R ≡ ends (refusal_number r)
 
 true-false : true ≡ false → ⊥
 true-false e = let z : ◌≡◌ {A = ℕ} 0 1 = cc in omega arith
 
 -- the same reading, seen from an earlier place
 further : (s : List ℕ) (at m : ℕ) (R : Reading) (at₀ m₀ : ℕ) (R₀ : Reading) (step : UrlStep) → at₀ ≤ at → m ≤ m₀ → R₀ ≡ R → Says s at m R step → Says s at₀ m₀ R₀ step
-further s at m R at₀ m₀ R₀ (Ok (Some f)) a b e g =
+further s at m R at₀ m₀ R₀ (Ok f) a b e g =
     record {
       setting = g.setting;
       kind = g.kind;
@@ -95,8 +95,8 @@ further s at m R at₀ m₀ R₀ (Ok (Some f)) a b e g =
       port-only = g.port-only;
       falls = omega (arith, g.falls);
     }
-further s at m R at₀ m₀ R₀ (Ok None) a b e g = e ∙ g
-further s at m R at₀ m₀ R₀ (Err r) a b e g = e ∙ g
+further s at m R at₀ m₀ R₀ (Err None) a b e g = e ∙ g
+further s at m R at₀ m₀ R₀ (Err (Some r)) a b e g = e ∙ g
 
 -- a setting whose value is a part of the text, and that is given where ok says so
 module _ (s : List ℕ) (at m : ℕ) (R : Reading) (kind from to : ℕ) (next : Url) (v : List ℕ) (p : part_of from to s ≡ v) (ok : Bool) (σ : Setting) where
@@ -550,12 +550,12 @@ module _ (s : List ℕ) where
     where
       by : (step : UrlStep) → Says s u.at (left s u) (reading_from s u) step
           → ((w : Url) → w.at ≤ length s → left s w < n → length (reading_from s w).settings ≤ left s w) → length (reading_from s u).settings ≤ left s u
-      by (Ok (Some f)) g below =
+      by (Ok f) g below =
           let b : left s f.next < left s u = g.falls in
           let r : length (reading_from s f.next).settings ≤ left s f.next = below f.next g.inside (omega arith) in
           rw g.reads (omega (arith, b, r))
-      by (Ok None) e below = rw e (omega arith)
-      by (Err r) e below = rw e (omega arith)
+      by (Err None) e below = rw e (omega arith)
+      by (Err (Some r)) e below = rw e (omega arith)
 
   pub settings-most : (u : Url) → u.at ≤ length s → length (reading_from s u).settings ≤ left s u
   settings-most u h = settings-below (suc (left s u)) u h (omega arith)

@@ -18,18 +18,18 @@ use Rattle.setting.specs.declared.Refusal.TheVariants.{Bracket, NoEquals, NotUtf
 use Rattle.url_parser.specs.declared.HostPlace.{HostPlace}
 use Rattle.url_parser.specs.Uri.{has, up_to, beyond, first_of, host_fits, closes, ends_hosts, port, host_chunks, hosts, path, params, parameters, password, uri}
 
--- a step gives a setting, tells the clean end, or refuses
+-- a step gives a setting, or the end of the reading: clean, or a refusal
 abbrev pub UrlStep : Type 0
-UrlStep = Result (Option Found) Refusal
+UrlStep = Result Found (Option Refusal)
 
 abbrev pub given : Found → UrlStep
-given f = Ok (Some f)
+given f = Ok f
 
 abbrev pub over : UrlStep
-over = Ok None
+over = Err None
 
 abbrev pub refused : Refusal → UrlStep
-refused r = Err r
+refused r = Err (Some r)
 
 abbrev pub url : Stage → ℕ → Url
 url stage at = record { stage = stage; at = at }
