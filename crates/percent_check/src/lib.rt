@@ -32,10 +32,12 @@ fn plain_until(s: &[u8], from: usize, stop: u8) -> usize
     if s.len() <= from {
         return from;
     }
-    match s[from..].iter().position(|&b| ends_plain(stop, b)) {
-        Some(k) => from + k,
-        None => s.len(),
+    for i in from..s.len() {
+        if ends_plain(stop, s[i]) {
+            return i;
+        }
     }
+    s.len()
 }
 
 // Both in one pass, with nothing written.

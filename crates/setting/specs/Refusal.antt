@@ -1,6 +1,6 @@
 -- Why a reading ends before the text does, and the number that the refusal hands back.
 -- Assumes nothing.
-use Rattle.std.specs.Prelude.{ℕ}
+use Rattle.std.specs.Prelude.{ℕ, Option, Some, None}
 use Rattle.setting.specs.declared.Refusal.{Refusal}
 use Rattle.setting.specs.declared.Refusal.TheVariants.{NoSign, KeyAlone, EmptyValue, OpenQuote, Bracket, NoEquals, NotUtf8}
 
@@ -13,3 +13,8 @@ refusal_number OpenQuote = 9
 refusal_number Bracket = 10
 refusal_number NoEquals = 11
 refusal_number NotUtf8 = 12
+
+-- the end of a reading as a number: 0 is clean
+abbrev pub end_number : Option Refusal → ℕ
+end_number None = 0
+end_number (Some r) = refusal_number r

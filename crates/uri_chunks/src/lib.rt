@@ -32,10 +32,12 @@ pub fn chunk_end(s: &[u8], at: usize) -> usize
     if s.len() <= at {
         return at;
     }
-    match s[at..].iter().position(|&b| ends_chunk(b)) {
-        Some(k) => at + k,
-        None => s.len(),
+    for i in at..s.len() {
+        if ends_chunk(s[i]) {
+            return i;
+        }
     }
+    s.len()
 }
 
 // Whether after `]` the chunk ends, or `:` follows.
@@ -105,10 +107,12 @@ pub fn plain_host(s: &[u8], at: usize) -> usize
     if s.len() <= at {
         return at;
     }
-    match s[at..].iter().position(|&b| ends_plain_host(b)) {
-        Some(k) => at + k,
-        None => s.len(),
+    for i in at..s.len() {
+        if ends_plain_host(s[i]) {
+            return i;
+        }
     }
+    s.len()
 }
 
 // Whether a host ends at a place.

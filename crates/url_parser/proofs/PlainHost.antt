@@ -1,6 +1,6 @@
 -- Laws of a host that is plain: it ends where a scan finds its end, and is judged by having been found.
 -- Assumes nothing.
-use Rattle.std.proofs.Common.{Option, Some, None}
+use Rattle.std.proofs.Common.{Some}
 use Prim.Native.Nat.{ℕ, zero, suc, ◌+◌, ◌-◌, ◌≤◌, ◌<◌}
 use mathlib.Core.Path.{◌≡◌, refl, ap, sym, ◌∙◌}
 use mathlib.Core.Bool.{Bool, true, false, ◌||◌}
@@ -20,7 +20,7 @@ use Rattle.percent_check.specs.Plain.{plain_until}
 use Rattle.percent_check.proofs.Runs.{run_more, whole_plain}
 use Rattle.url_parser.specs.declared.Stage.TheVariants.{Port}
 use Rattle.url_parser.specs.Uri.{first_of, ends_hosts}
-use Rattle.url_parser.specs.Step.{given, over, url, found, give, ends_chunk, chunk_end, ends_host, ends_plain_host, place, host_place, host_checked, placed_step, chunk_step}
+use Rattle.url_parser.specs.Step.{given, url, found, give, ends_chunk, chunk_end, ends_host, ends_plain_host, place, host_place, host_checked, placed_step, chunk_step}
 use Rattle.url_parser.proofs.Places.{front-byte, part-start, of_end}
 use Rattle.url_parser.proofs.Branches.{place-plain, host-utf8}
 

@@ -3,7 +3,7 @@
 use Rattle.setting.specs.declared.Refusal.TheVariants.{NoEquals, NotUtf8}
 use Rattle.std.proofs.Common.{Option, Some, None, Ok, Err}
 use Rattle.setting.specs.declared.Refusal.{Refusal}
-use Rattle.setting.specs.Refusal.{refusal_number}
+use Rattle.setting.specs.Refusal.{refusal_number, end_number}
 use Prim.Native.Nat.{ℕ, zero, suc, ◌+◌, ◌*◌, ◌≤◌, ◌<◌, ◌-◌}
 use mathlib.Core.Path.{◌≡◌, refl, ap, sym, subst, ◌∙◌}
 use mathlib.Core.Bool.{Bool, true, false}
@@ -32,7 +32,7 @@ use Rattle.url_parser.specs.declared.Url.{Url}
 use Rattle.url_parser.specs.declared.Found.{Found}
 use Rattle.url_parser.specs.declared.HostPlace.{HostPlace}
 use Rattle.url_parser.specs.Uri.{has, up_to, beyond, first_of, text, host_fits, host, value, parameter, parameters, params, dbname, database, path, port, ends_hosts, host_chunks, hosts, password, credentials, uri}
-use Rattle.url_parser.specs.Step.{given, over, refused, UrlStep, url, found, give, skipped, host_checked, param_kind, key_kind, value_step, key_step, parameter_step, params_step, database_step, path_step, ends_chunk, chunk_end, behind_chunk, fixed_port, port_step, host_place, placed_step, chunk_step, host_step, password_step, user_end, credentials_step, stage_step, step_at, value_in, port_and_on, stage_reading, reading_from}
+use Rattle.url_parser.specs.Step.{given, over, refused, UrlStep, url, found, give, skipped, param_kind, key_kind, value_step, key_step, parameter_step, params_step, database_step, path_step, ends_chunk, chunk_end, behind_chunk, fixed_port, port_step, host_place, placed_step, chunk_step, host_step, password_step, user_end, credentials_step, stage_step, step_at, value_in, port_and_on, stage_reading, reading_from}
 use Rattle.url_parser.proofs.Places.{front-byte, part-front, part-shift, part-take, drop-take, drop-skipped, skip-from, skip-within, of-most, first-drop}
 use Rattle.uri_keys.proofs.Keys.{key-most, kind-most, setting-most, user-one, password-two, dbname-three, port-ten}
 use Rattle.url_parser.proofs.Branches.{Ordered, place-ordered}
@@ -533,6 +533,10 @@ module _ (s : List ℕ) where
 
   pub reading-refused : (u : Url) (r : Refusal) → u.at ≤ length s → step_at s u ≡ refused r → reading_from s u ≡ ends (refusal_number r)
   reading-refused u r h e = subst (Says s u.at (left s u) (reading_from s u)) e (step-says u h)
+
+  pub reading-end : (u : Url) (e : Option Refusal) → u.at ≤ length s → step_at s u ≡ Err e → reading_from s u ≡ ends (end_number e)
+  reading-end u None h q = reading-over u h q
+  reading-end u (Some r) h q = reading-refused u r h q
 
   -- behind the prefix, the whole is left
   pub reading-start : (at : ℕ) → reading_from s (url Credentials at) ≡ uri (drop at s)

@@ -1,23 +1,26 @@
--- `uri_chunks::chunk_end` meets its contract: the first byte that passes is the library's.
+-- `uri_chunks::chunk_end` meets its contract: the whole answer is what it is from here on.
 -- Assumes nothing.
-use lib.ListN.{drop, length-drop}
-use Rattle.std.proofs.Common.{rules, tests, arith}
-use Rattle.std.proofs.lemmas.Iterator.{YieldsList-from_slice}
-use Rattle.std.proofs.lemmas.Iterator.Search.{position_from_yields_List}
-use Rattle.byte.proofs.Scan.{place_found, place_none}
+use mathlib.Core.Path.{sym, ◌∙◌}
+use native.Mathlib.Omega.{arith}
 use Rattle.url_parser.specs.Step.{ends_chunk}
-use Rattle.url_parser.proofs.Places.{of-most, of_end, of-position}
+use Rattle.url_parser.proofs.Places.{of-here, of-on, of_end}
 use Rattle.uri_chunks.proofs.chunk_end.Goals as goal
 
+pub returns-then-ends_chunk : goal.returns-then-ends_chunk
+returns-then-ends_chunk c =
+    let l = c in
+    omega (arith, of-here ends_chunk l.args.s.now l.loop-i.i (omega arith) (sym c.ends_chunk.ensures ∙ c.if-ends_chunk.true))
+
+pub loop-i-preserved : goal.loop-i-preserved
+loop-i-preserved c =
+    let l = c in
+    omega (arith, of-on ends_chunk l.args.s.now l.loop-i.i (omega arith) (sym c.ends_chunk.ensures ∙ c.if-ends_chunk.false))
+
+pub returns : goal.returns
+returns c =
+    let l = c in
+    omega (arith, of_end ends_chunk l.args.s.now l.loop-i.i (omega arith))
+
 pub returns-then-s-at : goal.returns-then-s-at
-returns-then-s-at c = omega (arith, of_end ends_chunk c.args.s.now c.args.at (omega arith))
-
-pub returns-in-Some : goal.returns-in-Some
-returns-in-Some c =
-    let is = position_from_yields_List ends_chunk _ _ c.position.result c.position.ensures.ran (YieldsList-from_slice _ c.iter.ensures.rest) (λ x b q k. search (rules, tests)) in
-    omega (arith, of-position ends_chunk (drop c.args.at c.args.s.now), place_found ends_chunk c.args.s.now c.args.at c.position.result is c.in-Some.k c.in-Some.is)
-
-pub returns-in-None : goal.returns-in-None
-returns-in-None c =
-    let is = position_from_yields_List ends_chunk _ _ c.position.result c.position.ensures.ran (YieldsList-from_slice _ c.iter.ensures.rest) (λ x b q k. search (rules, tests)) in
-    omega (arith, of-position ends_chunk (drop c.args.at c.args.s.now), of-most ends_chunk (drop c.args.at c.args.s.now), length-drop c.args.at c.args.s.now, place_none ends_chunk c.args.s.now c.args.at c.position.result is c.in-None.is)
+returns-then-s-at c =
+    omega (arith, of_end ends_chunk c.args.s.now c.args.at (omega arith))
