@@ -22,6 +22,7 @@ fn read_settings(text: &[u8], decode: &mut [u8], config: &mut Config) -> Ending
     let mut packed: usize = 0;
     let mut url = url_parser::start(prefix);
     let mut count: usize = 0;
+    // The place moves by a setting, to the reading's end: this loop counts no index.
     loop {
         let t = match taking::take_setting(text, decode, uri, url, packed) {
             Ok(t) => t,
