@@ -8,6 +8,7 @@ ghost use Rattle.answers.specs.Answers.{in_one};
 ghost use Rattle.answers.specs.Places.{place};
 
 use entry::REFUSED;
+use outcome::Answer;
 use places::NO_PLACE;
 
 // A text's number, key and count: number + 2^8 · key + 2^16 · count.
@@ -19,13 +20,22 @@ pub fn nyimbrak_answer(text: &[u8], decode: &mut [u8]) -> u64
     a.number as u64 + 256 * (a.key as u64) + 65536 * (a.count as u64)
 }
 
+// A text read, out of line: the stack of the reading is given back before a report is written.
+#[inline(never)]
+fn read_apart(text: &[u8], decode: &mut [u8]) -> Answer
+    ensures value { result ≡ answer text.now (length decode.old) }
+    ensures decode_after { decode.new ≡ left text.now decode.old }
+{
+    reader::read(text, decode)
+}
+
 // The length of a text's report, which is written into `report`; or 1,000,000 plus the refusal, with `report` as it was.
 pub fn nyimbrak_read(text: &[u8], decode: &mut [u8], report: &mut [u8]) -> u32
     ensures value { result ≡ entry text.now decode.old (length report.old) }
     ensures decode_after { decode.new ≡ left text.now decode.old }
     ensures report_after { report.new ≡ entry_left text.now decode.old report.old }
 {
-    let a = reader::read(text, decode);
+    let a = read_apart(text, decode);
     if a.number != 0 {
         return REFUSED + a.number as u32;
     }

@@ -32,7 +32,8 @@ fn minus(n: u64) -> i64
     -(n as i64)
 }
 
-// An optional sign and decimal digits, for a signed number of 64 bits.
+// An optional sign and decimal digits, for a signed number of 64 bits. Always inlined: its result would else be handed back through memory.
+#[inline(always)]
 pub fn read_signed(s: &[u8]) -> Result<i64, NumberError>
     ensures { result ≡ signed_of s.now }
 {

@@ -17,13 +17,13 @@ pub fn has_room(s: &[u8], len: usize, at: usize) -> bool
 }
 
 // Writes the decoded text into `dst` from the place `at` on, and answers the place behind it; with no room it writes nothing and answers `at`.
-// Up to the first `%` bytes are copied.
+// Up to the first `%` bytes are copied. Everything else stands apart in one function, so that a plain text, as most are, is copied with no call.
 pub fn decode(src: &[u8], dst: &mut [u8], at: usize) -> usize
     ensures value { result ≡ after dst.old at (decoded src.now) }
     ensures dst_after { dst.new ≡ written dst.old at (decoded src.now) }
 {
-    if !has_room(src, dst.len(), at) {
-        return at;
+    if !byte::has_room(dst.len(), at, src.len()) {
+        return decode_pieces(src, dst, at);
     }
     for (k, &b) in src.iter().enumerate() {
         if b == b'%' {
@@ -35,6 +35,7 @@ pub fn decode(src: &[u8], dst: &mut [u8], at: usize) -> usize
 }
 
 // The same, piece by piece.
+#[inline(never)]
 fn decode_pieces(src: &[u8], dst: &mut [u8], at: usize) -> usize
     ensures value { result ≡ after dst.old at (decoded src.now) }
     ensures dst_after { dst.new ≡ written dst.old at (decoded src.now) }

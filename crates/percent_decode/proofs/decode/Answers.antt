@@ -1,28 +1,23 @@
 -- `decode` meets its contract: bytes are copied up to the first `%`, and what is decoded from there on completes them. Assumes nothing.
 use lib.ListN.{length, drop, get_or}
-use borrow.Author.Tests.{leb-true, leb-false}
+use borrow.Author.Tests.{leb-true}
 use native.Mathlib.Omega.{arith}
-use Prim.Native.Nat.{ℕ, ◌+◌, ◌<◌}
+use Prim.Native.Nat.{ℕ, ◌+◌, ◌≤◌}
 use mathlib.Core.List.{List, ◌∷◌}
 use mathlib.Core.Path.{◌≡◌, sym, ap, ◌∙◌}
 use Rattle.byte.proofs.Fill.{Filling, fill_start, fill-room, fill_more, fill_done}
-use Rattle.byte.proofs.Writing.{written-short, after-short}
 use Rattle.byte.specs.Put.{written, after}
 use Rattle.percent.specs.Percent.{decoded}
 use Rattle.percent_decode.proofs.Front.{rest-after, rest-written}
-use Rattle.percent.proofs.Laws.{stop, plain_step, slice-from}
+use Rattle.percent.proofs.Laws.{shorter, stop, plain_step, slice-from}
 -- in a turn the byte that was read is what comes next
 use Rattle.percent_decode.proofs.decode.Goals as goal
 
-pub returns-then-not-has_room : goal.returns-then-not-has_room
-returns-then-not-has_room c =
-    let here_no_room : length c.args.dst.now < c.args.at + length (decoded c.args.src.now) = leb-false _ _ (sym c.has_room.ensures ∙ c.if-not-has_room.true) in
-    let a = c.args in
-    record { value = sym (after-short _ a.at _ here_no_room); dst_after = sym (written-short _ a.at _ here_no_room) }
-
 pub loop-k-init : goal.loop-k-init
 loop-k-init c =
-    (leb-true _ _ (sym c.has_room.ensures ∙ c.if-not-has_room.false), fill_start _ _ _)
+    let a = c.args in
+    let wide : a.at + length a.src.now ≤ length a.dst.now = leb-true _ _ (sym c.has_room.ensures ∙ c.if-not-has_room.false) in
+    (omega (arith, wide, shorter a.src.now), fill_start _ _ _)
 
 pub overflow_add-at : goal.overflow_add-at
 overflow_add-at c =
@@ -32,7 +27,7 @@ pub returns-then-b-eq37 : goal.returns-then-b-eq37
 returns-then-b-eq37 c =
     let l = c in
     let a = c.args in
-    let p = c.decode_pieces.ensures in
+    let p = c.decode_pieces-then-b-eq37.ensures in
     let e = slice-from a.src.now l.loop-k.k in
     record { value = p.value ∙ ap (λ (x : List ℕ). after l.loop-k.dst (a.at + l.loop-k.k) (decoded x)) e ∙ rest-after _ _ _ l.loop-k.invariant.0 _ _ _ l.loop-k.invariant.1; dst_after = p.dst_after ∙ ap (λ (x : List ℕ). written l.loop-k.dst (a.at + l.loop-k.k) (decoded x)) e ∙ rest-written _ _ _ l.loop-k.invariant.0 _ _ _ l.loop-k.invariant.1 }
 

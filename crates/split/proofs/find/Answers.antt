@@ -1,22 +1,20 @@
-use lib.ListN.{drop, length-drop}
-use lib.Dec.{eqb}
-use Rattle.std.proofs.Common.{rules, tests, arith}
-use Rattle.std.proofs.lemmas.Iterator.{YieldsList-from_slice}
-use Rattle.std.proofs.lemmas.Iterator.Search.{position_from_yields_List}
-use Rattle.byte.proofs.Scan.{place_found, place_none}
-use Rattle.split.proofs.Split.{first-end, first-position, first-most}
+-- `split::find`: the whole answer is what it is from here on.
+-- Assumes nothing.
+use native.Mathlib.Omega.{arith}
+use Rattle.split.proofs.Split.{first-here, first_on, first-end}
 use Rattle.split.proofs.find.Goals as goal
 
 pub returns-then-s-from : goal.returns-then-s-from
 returns-then-s-from c = omega (arith, first-end c.args.b c.args.s.now c.args.from (omega arith))
 
-pub returns-in-Some : goal.returns-in-Some
-returns-in-Some c =
-    let is = position_from_yields_List (λ x. eqb x c.args.b) _ _ c.position.result c.position.ensures.ran (YieldsList-from_slice _ c.iter.ensures.rest) (λ x b q k. search (rules, tests)) in
-    omega (arith, first-position c.args.b (drop c.args.from c.args.s.now), place_found (λ x. eqb x c.args.b) c.args.s.now c.args.from c.position.result is c.in-Some.k c.in-Some.is)
+pub returns-then-s-i : goal.returns-then-s-i
+returns-then-s-i c =
+    let l = c in omega (arith, first-here l.args.b l.args.s.now l.loop-i.i (omega arith) c.if-s-i.true)
 
-pub returns-in-None : goal.returns-in-None
-returns-in-None c =
-    let xs = drop c.args.from c.args.s.now in
-    let is = position_from_yields_List (λ x. eqb x c.args.b) _ _ c.position.result c.position.ensures.ran (YieldsList-from_slice _ c.iter.ensures.rest) (λ x b q k. search (rules, tests)) in
-    omega (arith, first-position c.args.b xs, first-most c.args.b xs, length-drop c.args.from c.args.s.now, place_none (λ x. eqb x c.args.b) c.args.s.now c.args.from c.position.result is c.in-None.is)
+pub loop-i-preserved : goal.loop-i-preserved
+loop-i-preserved c =
+    let l = c in omega (arith, first_on l.args.b l.args.s.now l.loop-i.i (omega arith) c.if-s-i.false)
+
+pub returns : goal.returns
+returns c =
+    let l = c in omega (arith, first-end l.args.b l.args.s.now l.loop-i.i (omega arith))
