@@ -109,17 +109,25 @@ pub fn put_text(field: &mut Option<Place>, start: usize, len: usize) -> Result<(
     Ok(())
 }
 
-// A word of the field's key.
-pub fn put_word<W: Word>(field: &mut W, v: &[u8]) -> Result<(), Fault>
-    ensures value { result ≡ word_fault (word_number W.KEY v.now) }
-    ensures field_after { field.new ≡ word_after W.word field.old (word_number W.KEY v.now) }
+// A word among those of any key. The key need not be the field's own: the number of the word is what the field goes by.
+pub fn put_word_of<W: Word>(key: usize, field: &mut W, v: &[u8]) -> Result<(), Fault>
+    ensures value { result ≡ word_fault (word_number key v.now) }
+    ensures field_after { field.new ≡ word_after W.word field.old (word_number key v.now) }
 {
-    let n = names::word_number(W::KEY, v);
+    let n = names::word_number(key, v);
     if n == 0 {
         return Err(Fault::Word);
     }
     *field = W::from_number(n);
     Ok(())
+}
+
+// A word of the field's key.
+pub fn put_word<W: Word>(field: &mut W, v: &[u8]) -> Result<(), Fault>
+    ensures value { result ≡ word_fault (word_number W.KEY v.now) }
+    ensures field_after { field.new ≡ word_after W.word field.old (word_number W.KEY v.now) }
+{
+    put_word_of(W::KEY, field, v)
 }
 
 // The seconds of a signed number: only a positive one is cast, zero or below is 0.
@@ -129,7 +137,8 @@ fn seconds_of(t: i64) -> u64
     if t > 0 { t as u64 } else { 0 }
 }
 
-// The seconds that a value says.
+// The seconds that a value says. Always inlined: a field's setter is little more than this call.
+#[inline(always)]
 fn read_seconds(v: &[u8]) -> Result<u64, Fault>
     ensures { result ≡ number_or_fault (seconds_in v.now) }
 {

@@ -114,3 +114,10 @@ pub fn append_all<T: Entry>(
         at = end + 1;
     }
 }
+
+// The pieces of a value whose entries don't tell where they stand, addresses and ports: as if the value stood at 0, so that any value may come.
+pub fn append_each<T: Entry>(list: &mut [T; 16], count: &mut usize, v: &[u8]) -> Result<(), Fault>
+    ensures { Adds result (slots list.new count.new) (append_all T.FULL (slots list.old count.old) (listed T.means 0 v.now)) }
+{
+    append_all(list, count, 0, v)
+}

@@ -8,7 +8,7 @@ ghost use Rattle.param.specs.Sets.{Sets};
 
 use config::Config;
 use field_keys::{put_idle, put_keepalives, put_retries, put_text, put_time, put_word};
-use list_keys::{append, append_all};
+use list_keys::{append, append_all, append_each};
 use lists::Fault;
 
 // Applies the setting of a kind (1 to 19 its key, 20 one host from a URI) whose value is the part of the buffer from `start` up to `end`.
@@ -34,8 +34,8 @@ pub fn param(
         6 => put_word(&mut config.ssl_mode, v),
         7 => put_word(&mut config.ssl_negotiation, v),
         8 => append_all(&mut config.host.list, &mut config.host.count, start, v),
-        9 => append_all(&mut config.hostaddr.list, &mut config.hostaddr.count, 0, v),
-        10 => append_all(&mut config.port.list, &mut config.port.count, 0, v),
+        9 => append_each(&mut config.hostaddr.list, &mut config.hostaddr.count, v),
+        10 => append_each(&mut config.port.list, &mut config.port.count, v),
         11 => put_time(&mut config.connect_timeout, v),
         12 => put_time(&mut config.tcp_user_timeout, v),
         13 => put_keepalives(&mut config.keepalives, v),

@@ -51,12 +51,12 @@ returns-in-8 c =
 pub returns-in-9 : goal.returns-in-9
 unfolding fault_of after
 returns-in-9 c =
-    let a = addresses-are _ _ 0 _ c.args.config.now.hostaddr _ c.append_all-in-9.ensures in by_kind _ 9 _ _ _ _ _ _ c.in-9.is c.part-v.ensures a.0 (λ e. rw (a.1 e))
+    let a = addresses-are _ _ 0 _ c.args.config.now.hostaddr _ c.append_each.ensures in by_kind _ 9 _ _ _ _ _ _ c.in-9.is c.part-v.ensures a.0 (λ e. rw (a.1 e))
 
 pub returns-in-10 : goal.returns-in-10
 unfolding fault_of after
 returns-in-10 c =
-    let a = ports-are _ _ 0 _ c.args.config.now.port _ c.append_all-in-10.ensures in by_kind _ 10 _ _ _ _ _ _ c.in-10.is c.part-v.ensures a.0 (λ e. rw (a.1 e))
+    let a = ports-are _ _ 0 _ c.args.config.now.port _ c.append_each-in-10.ensures in by_kind _ 10 _ _ _ _ _ _ c.in-10.is c.part-v.ensures a.0 (λ e. rw (a.1 e))
 
 pub returns-in-11 : goal.returns-in-11
 unfolding fault_of after
