@@ -1,11 +1,12 @@
 // The setters of numbers, with the record passed by value: the record with one setting changed, or the record as it was and why.
-#![tactic(auto, using(crate::proofs::Answers::answer_set), unfolding(crate::specs::Setter::room, crate::specs::Setter::changed))]
+#![tactic(auto, using(crate::proofs::Answers::refused_set))]
 
 ghost use Rattle.std.specs.Prelude.{◌≡◌};
-ghost use Rattle.setters.specs.Setter.{number, switch, set, answer_of};
+ghost use Rattle.byte.specs.Byte.{pick};
+ghost use Rattle.config.specs.Sound.{counted};
+ghost use Rattle.setters.specs.Setter.{number, switch, set};
 
 use config::Config;
-use lists::Fault;
 
 // The number of a record with a list count above 16.
 const UNSOUND: usize = 17;
@@ -18,26 +19,15 @@ pub struct Answer {
     pub config: Config,
 }
 
-// What every setter answers of the record `c`, given the record with the setting changed, or why that has no room.
-#[tactic(auto, unfolding(crate::specs::Setter::answer_of))]
-pub fn answered(c: Config, changed: Result<Config, Fault>) -> Answer
-    ensures { result ≡ answer_of changed c }
+// Where every setter begins: the record as it stands, and the number of one whose counts can't be believed, else 0. The setter then changes
+// the answer's own record in place: each copy of a record that is made on the way costs more than all the rest of a setter.
+#[inline(always)]
+pub fn believed(c: Config) -> Answer
+    ensures { result ≡ record { number = pick (counted c) 0 17; config = c } }
 {
-    if !sound::counts_in(c) {
-        return Answer {
-            number: UNSOUND,
-            config: c,
-        };
-    }
-    match changed {
-        Ok(next) => Answer {
-            number: 0,
-            config: next,
-        },
-        Err(fault) => Answer {
-            number: fault.number(),
-            config: c,
-        },
+    Answer {
+        number: if sound::counts_in(c) { 0 } else { UNSOUND },
+        config: c,
     }
 }
 
@@ -45,64 +35,64 @@ pub fn answered(c: Config, changed: Result<Config, Fault>) -> Answer
 pub fn connect_timeout(c: Config, seconds: u64) -> Answer
     ensures { result ≡ set 11 (number seconds) c }
 {
-    let changed = Config {
-        connect_timeout: Some(seconds),
-        ..c
-    };
-    answered(c, Ok(changed))
+    let mut a = believed(c);
+    if a.number == 0 {
+        a.config.connect_timeout = Some(seconds);
+    }
+    a
 }
 
 // Key 12, tcp_user_timeout: zero is stored, unlike zero in a text.
 pub fn tcp_user_timeout(c: Config, seconds: u64) -> Answer
     ensures { result ≡ set 12 (number seconds) c }
 {
-    let changed = Config {
-        tcp_user_timeout: Some(seconds),
-        ..c
-    };
-    answered(c, Ok(changed))
+    let mut a = believed(c);
+    if a.number == 0 {
+        a.config.tcp_user_timeout = Some(seconds);
+    }
+    a
 }
 
 // Key 13, keepalives.
 pub fn keepalives(c: Config, on: bool) -> Answer
     ensures { result ≡ set 13 (switch on) c }
 {
-    let changed = Config {
-        keepalives: on,
-        ..c
-    };
-    answered(c, Ok(changed))
+    let mut a = believed(c);
+    if a.number == 0 {
+        a.config.keepalives = on;
+    }
+    a
 }
 
 // Key 14, keepalives_idle: a time that is never unset; zero is stored.
 pub fn keepalives_idle(c: Config, seconds: u64) -> Answer
     ensures { result ≡ set 14 (number seconds) c }
 {
-    let changed = Config {
-        keepalives_idle: seconds,
-        ..c
-    };
-    answered(c, Ok(changed))
+    let mut a = believed(c);
+    if a.number == 0 {
+        a.config.keepalives_idle = seconds;
+    }
+    a
 }
 
 // Key 15, keepalives_interval: zero is stored, unlike zero in a text.
 pub fn keepalives_interval(c: Config, seconds: u64) -> Answer
     ensures { result ≡ set 15 (number seconds) c }
 {
-    let changed = Config {
-        keepalives_interval: Some(seconds),
-        ..c
-    };
-    answered(c, Ok(changed))
+    let mut a = believed(c);
+    if a.number == 0 {
+        a.config.keepalives_interval = Some(seconds);
+    }
+    a
 }
 
 // Key 16, keepalives_retries.
 pub fn keepalives_retries(c: Config, retries: u32) -> Answer
     ensures { result ≡ set 16 (number retries) c }
 {
-    let changed = Config {
-        keepalives_retries: Some(retries),
-        ..c
-    };
-    answered(c, Ok(changed))
+    let mut a = believed(c);
+    if a.number == 0 {
+        a.config.keepalives_retries = Some(retries);
+    }
+    a
 }
