@@ -37,7 +37,28 @@ SLIPS = [
         ("param", "20 => append(&mut config.host.list,", "20 => append_all(&mut config.host.list,"),
     ]),
     ("character_behind_backslash_dropped", [
+        # measured by gained_at, and written by unescape
         ("backslash", "{ at + 1 } else { at }", "{ at + 2 } else { at }"),
+        ("backslash", "    let mut behind = false;\n    let mut k = 0;\n", "    let mut behind = false;\n    let mut over = false;\n    let mut k = 0;\n"),
+        ("backslash", """\
+        if is_sign(behind, b) {
+            behind = true;
+            continue;
+        }
+        dst[at + k] = b;
+""", """\
+        if !over && is_sign(behind, b) {
+            behind = true;
+            continue;
+        }
+        if behind {
+            behind = false;
+            over = true;
+            continue;
+        }
+        over = false;
+        dst[at + k] = b;
+"""),
     ]),
     ("syntax_judged_before_the_first_setting", [
         ("reader", "    let mut packed: usize = 0;\n", """\
@@ -198,6 +219,33 @@ fn close_up(config: &mut Config, first: usize) {
     }
     at + 1
 """),
+        ("backslash", """\
+        behind = false;
+        len += 1;
+    }
+    len
+""", """\
+        behind = false;
+        len += 1;
+    }
+    if behind {
+        len += 1;
+    }
+    len
+"""),
+        ("backslash", """\
+        behind = false;
+    }
+    at + k
+""", """\
+        behind = false;
+    }
+    if behind {
+        dst[at + k] = b'\\\\';
+        k += 1;
+    }
+    at + k
+"""),
     ]),
     # the URI parser
     ("credentials_up_to_the_last_at_sign", [
@@ -311,11 +359,12 @@ fn last_at_sign(s: &[u8], at: usize) -> usize {
     ]),
     # settings
     ("sixteenth_host_refused", [
-        ("list_keys", "    lists::keep(list, count, T::read(start, piece)?, T::FULL)\n", """\
-    if T::FULL.number() == 13 && 15 <= *count {
-        return Err(T::FULL);
-    }
-    lists::keep(list, count, T::read(start, piece)?, T::FULL)
+        # a list of hosts alone, and no host of a URI
+        ("list_keys", "        append(list, count, start + at, &v[at..end])?;\n", """\
+        if T::FULL.number() == 13 && 15 <= *count {
+            return Err(T::FULL);
+        }
+        append(list, count, start + at, &v[at..end])?;
 """),
     ]),
     ("room_judged_before_form", [
