@@ -2,14 +2,16 @@
 -- Assumes nothing.
 use Rattle.std.proofs.Common.{◌≡◌, ◌∙◌, ℕ, Bool, true, false, refl, sym, ap, arith}
 use borrow.Author.Tests.{ne_eqb}
-use Rattle.std.specs.Prelude.{Ok}
+use Rattle.std.specs.Prelude.{Result, Ok, Err, ⊤}
 use lib.Dec.{eqb}
 use Rattle.byte.specs.Byte.{pick}
+use Rattle.lists.specs.declared.Fault.{Fault}
+use Rattle.lists.specs.declared.Fault.TheVariants.{UnknownKey, Word, Form, Range, NoAddress, ManyHosts, ManyHostaddrs, ManyPorts}
 use Rattle.lists.specs.Fault.{number_of}
 use Rattle.config.specs.declared.Config.{Config}
 use Rattle.config.specs.Sound.{counted}
 use Rattle.setters.specs.declared.Answer.{Answer}
-use Rattle.setters.specs.Setter.{Value, room, refusal, changed, set}
+use Rattle.setters.specs.Setter.{Value, room, refusal, changed, set, made, answer_of}
 
 -- where every setter begins
 abbrev pub begun : Config → Answer
@@ -41,6 +43,23 @@ module _ (key : ℕ) (v : Value) (c : Config) where
   pub stored_set : (a : Answer) → a ≡ begun c → a.number ≡ 0 → room key v c ≡ Ok tt → record { number = a.number; config = changed key v a.config } ≡ set key v c
   stored_set a e h r =
       settled_set a e h a.number (changed key v a.config) (rw (r, h)) (rw (h, ap (λ (x : Answer). x.config) e))
+
+  by-parts : (believed : Bool) (r : Result ⊤ Fault) → counted c ≡ believed → room key v c ≡ r → answer_of (made r (changed key v c)) c ≡ set key v c
+  unfolding set refusal answer_of
+  by-parts false r e f = rw e
+  by-parts true (Ok tt) e f = rw (e, f)
+  by-parts true (Err UnknownKey) e f = rw (e, f)
+  by-parts true (Err Word) e f = rw (e, f)
+  by-parts true (Err Form) e f = rw (e, f)
+  by-parts true (Err Range) e f = rw (e, f)
+  by-parts true (Err NoAddress) e f = rw (e, f)
+  by-parts true (Err ManyHosts) e f = rw (e, f)
+  by-parts true (Err ManyHostaddrs) e f = rw (e, f)
+  by-parts true (Err ManyPorts) e f = rw (e, f)
+
+  -- the answer to what a setter makes of the record is the setter's
+  pub answer_set : (r : Result Config Fault) → r ≡ made (room key v c) (changed key v c) → answer_of r c ≡ set key v c
+  answer_set r e = rw e (by-parts (counted c) (room key v c) refl refl)
 
 -- a refusal leaves the record as it was
 pub refused-same : (key : ℕ) (v : Value) (c : Config) → ((set key v c).number ≡ 0 → ⊥) → (set key v c).config ≡ c

@@ -1,11 +1,11 @@
 -- The setters of numbers and words: one definition for all thirteen, by the key of the setting.
 -- Assumes nothing.
-use Rattle.std.specs.Prelude.{ℕ, Bool, false, eqb, Some, Result, Ok, ⊤}
+use Rattle.std.specs.Prelude.{ℕ, Bool, false, eqb, Some, Result, Ok, Err, ⊤}
 use Rattle.byte.specs.Byte.{pick}
 use Rattle.address.specs.declared.Kind.{Kind}
 use Rattle.address.specs.declared.Address.{Address}
 use Rattle.lists.specs.declared.Fault.{Fault}
-use Rattle.lists.specs.Fault.{number_of}
+use Rattle.lists.specs.Fault.{fault_number, number_of}
 use Rattle.lists.specs.Lists.{port_kept, address_kept}
 use Rattle.config.specs.declared.SslMode.{SslMode}
 use Rattle.config.specs.declared.SslNegotiation.{SslNegotiation}
@@ -96,3 +96,16 @@ changed key v c =
 -- the whole answer; on a refusal "the record unchanged"
 unfoldable pub set : ℕ → Value → Config → Answer
 set key v c = record { number = refusal key v c; config = pick (eqb (refusal key v c) 0) (changed key v c) c }
+
+-- what becomes of the record where it has room, or why it has none
+abbrev pub made : Result ⊤ Fault → Config → Result Config Fault
+made (Ok x) next = Ok next
+made (Err f) next = Err f
+
+-- an answer, by what was made of the record
+abbrev pub settled : Result Config Fault → Config → Answer
+settled (Ok next) c = record { number = 0; config = next }
+settled (Err f) c = record { number = fault_number f; config = c }
+
+unfoldable pub answer_of : Result Config Fault → Config → Answer
+answer_of r c = pick (counted c) (settled r c) (record { number = 17; config = c })

@@ -4,9 +4,10 @@
 ghost use Rattle.std.specs.Prelude.{◌≡◌};
 ghost use Rattle.byte.specs.Byte.{pick};
 ghost use Rattle.config.specs.Sound.{counted};
-ghost use Rattle.setters.specs.Setter.{number, switch, set};
+ghost use Rattle.setters.specs.Setter.{number, switch, set, answer_of};
 
 use config::Config;
+use lists::Fault;
 
 // The number of a record with a list count above 16.
 const UNSOUND: usize = 17;
@@ -28,6 +29,28 @@ pub fn believed(c: Config) -> Answer
     Answer {
         number: if sound::counts_in(c) { 0 } else { UNSOUND },
         config: c,
+    }
+}
+
+// What a setter answers of the record `c` to whoever has the changed record at hand, or why that has no room. The setters below and those of
+// word_setters and list_setters change the answer's own record instead, which takes fewer copies.
+#[tactic(auto, unfolding(crate::specs::Setter::answer_of))]
+pub fn answered(c: Config, changed: Result<Config, Fault>) -> Answer
+    ensures { result ≡ answer_of changed c }
+{
+    let begun = believed(c);
+    if begun.number != 0 {
+        return begun;
+    }
+    match changed {
+        Ok(next) => Answer {
+            number: 0,
+            config: next,
+        },
+        Err(fault) => Answer {
+            number: fault.number(),
+            config: c,
+        },
     }
 }
 
@@ -96,3 +119,6 @@ pub fn keepalives_retries(c: Config, retries: u32) -> Answer
     }
     a
 }
+
+#[cfg(test)]
+mod tests;
